@@ -1,6 +1,9 @@
+pub mod Bars
 pub mod Homes
 pub mod Looks
 pub mod Missions
+pub mod Requests
 pub mod Scale
 pub mod Texts
 pub mod Time
+pub mod Titles

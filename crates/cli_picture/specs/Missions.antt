@@ -1,7 +1,7 @@
 -- The missions of a diagram.
 use Rattle.std.specs.Option.{option_map_or}
-use Rattle.std.specs.Prelude.{◌+◌, ◌-◌, ◌^◌, Bool, codes, false, List, None, not, Option, option_and_then, option_map}
-use Rattle.std.specs.Prelude.{Some, unwrap_or, ℕ}
+use Rattle.std.specs.Prelude.{◌+◌, ◌-◌, ◌^◌, Bool, codes, false, if◌then◌else◌, List, nat_lt, None, not, Option}
+use Rattle.std.specs.Prelude.{option_and_then, option_map, Some, true, unwrap_or, ℕ}
 use Rattle.cli_picture.specs.declared.marks.Sign.{Sign}
 use Rattle.cli_picture.specs.declared.marks.Sign.TheVariants.{Asked, Dropped, Ended, Granted, Handover}
 use Rattle.rbc_place.specs.declared.place.Place.{Place}
@@ -27,6 +27,17 @@ last_kept_in mission =
 -- the number of the section in advance of a mission's hand; without a mission the highest number
 abbrev pub end_of : Option MissionView → ℕ
 end_of mission = unwrap_or (option_map (λ m. m.hand.first + m.hand.count) mission) (2 ^ 32 - 1)
+
+-- the sign of the end of a request: the train accepts it if its authority ends earlier from then on
+abbrev pub answer_of : Option MissionView → Option MissionView → Sign
+answer_of before after = if nat_lt (end_of after) (end_of before) then Granted else Dropped
+
+abbrev pub is_dropped : Sign → Bool
+is_dropped Asked = false
+is_dropped Granted = false
+is_dropped Dropped = true
+is_dropped Handover = false
+is_dropped Ended = false
 
 -- a mission that is not ended
 abbrev pub goes_on : Option MissionView → Bool

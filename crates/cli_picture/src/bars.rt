@@ -1,8 +1,9 @@
 //! Draws the sections of trains, and the trains' numbers at the start of their missions.
 
-ghost use Rattle.std.specs.Prelude.{◌≡◌, List, option_map, ℕ};
+ghost use Rattle.std.specs.Prelude.{[], ◌≡◌, ◌++◌, codes, if◌then◌else◌, is_some, IfSome, List, OnOk, option_map, ℕ};
+ghost use Rattle.cli_picture.specs.Bars.{box_of, name_text, numbers_text, wish_class};
 ghost use Rattle.cli_picture.specs.Looks.{use_of};
-ghost use Rattle.cli_picture.specs.Texts.{wish_class};
+ghost use Rattle.cli_picture.specs.Texts.{Draws};
 
 use crate::run::{Run, nid_engine_of, track_of};
 use crate::scale::Scale;
@@ -81,7 +82,9 @@ fn draw_box(
     scale: &Scale<'_>,
     section: u16,
     stretch: &Stretch,
-) -> Result<(), AllocError> {
+) -> Result<(), AllocError>
+    ensures { OnOk result (Draws svg.old svg.new (box_of scale.now section stretch.now.since stretch.now.until)) }
+{
     let track = track_of(scale.line, section);
     let x = scale.x(track, section_start(scale.line, section));
     let right = scale.x(track, section_end(scale.line, section.into()));
@@ -120,7 +123,9 @@ fn draw_times(
     Ok(())
 }
 
-fn draw_numbers(svg: &mut String, run: &Run<'_>, stretch: &Stretch) -> Result<(), AllocError> {
+fn draw_numbers(svg: &mut String, run: &Run<'_>, stretch: &Stretch) -> Result<(), AllocError>
+    ensures { OnOk result (Draws svg.old svg.new (numbers_text run.now stretch.now.since stretch.now.until)) }
+{
     let since = run.number(stretch.since);
     write!(svg, ", from event {since}")?;
     if stretch.until < run.events.len() {
@@ -138,24 +143,35 @@ fn draw_names(
     run: &Run<'_>,
     train: u8,
 ) -> Result<(), AllocError> {
-    let colour = colour_of(train);
-    let nid_engine = nid_engine_of(run.line, train);
     for e in 0..run.events.len() {
         let (before, after) = run.missions(e, train);
         if let Some(mission) = after {
             if e == 0 || before.is_none() {
-                let first = mission.hand.first;
-                let track = track_of(run.line, first);
-                let x = scale
-                    .x(track, section_start(run.line, first))
-                    .saturating_add(4);
-                let y = scale.y(e).saturating_add(13);
-                writeln!(
-                    svg,
-                    "<text class=\"name c{colour}\" x=\"{x}\" y=\"{y}\">{nid_engine}</text>"
-                )?;
+                draw_name(svg, scale, train, mission.hand.first, e)?;
             }
         }
     }
     Ok(())
+}
+
+// Draws the number of a train at the start of a section, below the place of an event.
+fn draw_name(
+    svg: &mut String,
+    scale: &Scale<'_>,
+    train: u8,
+    section: u16,
+    event: usize,
+) -> Result<(), AllocError>
+    ensures { OnOk result (Draws svg.old svg.new (name_text scale.now train section event)) }
+{
+    let colour = colour_of(train);
+    let nid_engine = nid_engine_of(scale.line, train);
+    let track = track_of(scale.line, section);
+    let start = scale.x(track, section_start(scale.line, section));
+    let x = start.saturating_add(4);
+    let y = scale.y(event).saturating_add(13);
+    writeln!(
+        svg,
+        "<text class=\"name c{colour}\" x=\"{x}\" y=\"{y}\">{nid_engine}</text>"
+    )
 }

@@ -1,7 +1,9 @@
 //! Draws the events, with their numbers and descriptions, as far as there is room.
 
-ghost use Rattle.std.specs.Prelude.{◌≡◌, OnOk};
-ghost use Rattle.cli_picture.specs.Texts.{Draws, order_text, words_class};
+ghost use Rattle.std.specs.Prelude.{◌≡◌, codes, OnOk};
+ghost use Rattle.cli_picture.specs.Scale.{y_of};
+ghost use Rattle.cli_picture.specs.Texts.{Draws, frame_text, kind_text, number_text, order_text, words_class};
+ghost use Rattle.cli_picture.specs.Texts.{words_text};
 ghost use Rattle.text_script.specs.Print.Rows.{name_at};
 
 use crate::run::{Event, Kind, Run};
@@ -50,7 +52,9 @@ fn draw_number(
     scale: &Scale<'_>,
     e: usize,
     number: usize,
-) -> Result<(), AllocError> {
+) -> Result<(), AllocError>
+    ensures { OnOk result (Draws svg.old svg.new (number_text (y_of scale.now e) number)) }
+{
     let y = scale.y(e);
     writeln!(svg, "<path class=\"event\" d=\"M{LEFT} {y}H{RIGHT}\"/>")?;
     let y = y.saturating_add(4);
@@ -66,7 +70,9 @@ pub fn draw_words(
     scale: &Scale<'_>,
     e: usize,
     event: &Event,
-) -> Result<(), AllocError> {
+) -> Result<(), AllocError>
+    ensures { OnOk result (Draws svg.old svg.new (words_text scale.now e event.now)) }
+{
     let x = if scale.axis.is_some() {
         WORDS_OF_TIME
     } else {
@@ -86,7 +92,9 @@ fn words_class(is_silent: bool) -> &'static str
     if is_silent { "small silent" } else { "small" }
 }
 
-fn draw_kind(svg: &mut String, line: &Line, kind: Kind) -> Result<(), AllocError> {
+fn draw_kind(svg: &mut String, line: &Line, kind: Kind) -> Result<(), AllocError>
+    ensures { OnOk result (Draws svg.old svg.new (kind_text line.now kind)) }
+{
     match kind {
         Kind::Set { centre, section } => draw_order(svg, line, centre, "set", section),
         Kind::Unset { centre, section } => draw_order(svg, line, centre, "unset", section),
@@ -125,9 +133,11 @@ fn draw_frame(
     from: u8,
     to: u8,
     number: u32,
-) -> Result<(), AllocError> {
-    let from = line.centre_name(from).unwrap_or("?");
-    let to = line.centre_name(to).unwrap_or("?");
+) -> Result<(), AllocError>
+    ensures { OnOk result (Draws svg.old svg.new (frame_text (name_at line.now from) (name_at line.now to) number)) }
+{
+    let from = name_of(line, from);
+    let to = name_of(line, to);
     if from.len().saturating_add(to.len()) <= MOST_NAMES {
         write!(svg, "{from}→{to} frame {number}")
     } else {

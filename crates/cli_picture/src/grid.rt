@@ -4,8 +4,8 @@ ghost use Rattle.std.specs.Prelude.{◌≡◌, ◌==◌, if◌then◌else◌, le
 ghost use Rattle.std.specs.Prelude.{unwrap_or};
 ghost use Rattle.rbc_line.specs.Views.{placed_section};
 ghost use Rattle.cli_picture.specs.Scale.{height};
-ghost use Rattle.cli_picture.specs.Homes.{longer, stretch_of};
-ghost use Rattle.cli_picture.specs.Texts.{centre_text, Draws, home_box, small_number, tint_of};
+ghost use Rattle.cli_picture.specs.Homes.{home_text, homes_text, longer, stretch_of, track_head};
+ghost use Rattle.cli_picture.specs.Texts.{all_below, centre_text, Draws, home_box, small_number, tint_of, units_text};
 
 use crate::scale::Scale;
 use rbc_line::{Line, Section};
@@ -21,17 +21,35 @@ const METRES_ROOM: u64 = 46;
 const LINE_ROOM: u64 = 4;
 
 /// Draws the stretch of each home on each track, tinted in turn, with the names of the track and the home above it.
-pub fn draw_homes(svg: &mut String, scale: &Scale<'_>, axis: u64) -> Result<(), AllocError> {
+pub fn draw_homes(svg: &mut String, scale: &Scale<'_>, axis: u64) -> Result<(), AllocError>
+    ensures { OnOk result (Draws svg.old svg.new (all_below (homes_text scale.now axis)
+        (length scale.now.line.now.tracks))) }
+{
     for track in 0..scale.line.track_count() {
         draw_track(svg, scale, track, axis)?;
-        for home in 0..scale.line.centre_count() {
-            draw_home(svg, scale, track, home, axis)?;
-        }
+        draw_homes_on(svg, scale, track, axis)?;
     }
     Ok(())
 }
 
-fn draw_track(svg: &mut String, scale: &Scale<'_>, track: u8, axis: u64) -> Result<(), AllocError> {
+fn draw_homes_on(
+    svg: &mut String,
+    scale: &Scale<'_>,
+    track: u8,
+    axis: u64,
+) -> Result<(), AllocError>
+    ensures { OnOk result (Draws svg.old svg.new (all_below (home_text scale.now axis track)
+        (length scale.now.line.now.centres))) }
+{
+    for home in 0..scale.line.centre_count() {
+        draw_home(svg, scale, track, home, axis)?;
+    }
+    Ok(())
+}
+
+fn draw_track(svg: &mut String, scale: &Scale<'_>, track: u8, axis: u64) -> Result<(), AllocError>
+    ensures { OnOk result (Draws svg.old svg.new (track_head scale.now axis track)) }
+{
     let name = scale.line.track_name(track).unwrap_or("?");
     let x = scale.x(track, 0);
     let y = axis.saturating_add(14);
@@ -48,7 +66,9 @@ fn draw_home(
     track: u8,
     home: u8,
     axis: u64,
-) -> Result<(), AllocError> {
+) -> Result<(), AllocError>
+    ensures { OnOk result (Draws svg.old svg.new (home_text scale.now axis track home)) }
+{
     let Some((start, end)) = stretch_of(scale.line, track, home) else {
         return Ok(());
     };
@@ -144,7 +164,9 @@ pub fn draw_grid(svg: &mut String, scale: &Scale<'_>, axis: u64) -> Result<(), A
 }
 
 /// Writes the units of the numbers above the events.
-fn draw_units(svg: &mut String, axis: u64) -> Result<(), AllocError> {
+fn draw_units(svg: &mut String, axis: u64) -> Result<(), AllocError>
+    ensures { OnOk result (Draws svg.old svg.new (units_text axis)) }
+{
     let y = axis.saturating_add(52);
     writeln!(
         svg,

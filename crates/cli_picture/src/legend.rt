@@ -1,7 +1,9 @@
 //! Explains the colours and signs.
 
-ghost use Rattle.std.specs.Prelude.{OnOk};
-ghost use Rattle.cli_picture.specs.Texts.{Draws, small_text};
+ghost use Rattle.std.specs.List.{flat_map};
+ghost use Rattle.std.specs.Prelude.{OnOk, option_map, unwrap_or};
+ghost use Rattle.rbc_line.specs.Views.{listed_train};
+ghost use Rattle.cli_picture.specs.Texts.{Draws, legend_box, legend_sign, small_text, train_text};
 
 use crate::marks::{Sign, shape_of};
 use crate::run::{Run, nid_engine_of};
@@ -74,7 +76,10 @@ fn shows(run: &Run<'_>, train: u8) -> bool {
 }
 
 /// Draws a train's number, beside a bar and a front in its colour.
-fn draw_train(svg: &mut String, line: &Line, train: u8, x: u64, y: u64) -> Result<(), AllocError> {
+fn draw_train(svg: &mut String, line: &Line, train: u8, x: u64, y: u64) -> Result<(), AllocError>
+    ensures { OnOk result (Draws svg.old svg.new (train_text train
+        (unwrap_or (option_map (λ t. t.nid_engine) (listed_train line.now train)) 0) x y)) }
+{
     let colour = colour_of(train);
     let dashes = dashes_of(train);
     let nid_engine = nid_engine_of(line, train);
@@ -98,24 +103,45 @@ fn draw_signs(svg: &mut String, y: u64) -> Result<(), AllocError> {
         svg,
         "<path class=\"band\" d=\"M196 {y}m0 -2h22\"/><path class=\"front\" d=\"M196 {y}m0 -8l22 6\"/><text x=\"224\" y=\"{y}\" class=\"small\">place it reported</text>"
     )?;
-    for (sign, x, words) in &SIGNS {
-        draw_sign(svg, *sign, *x, y, words)?;
-    }
+    draw_listed_signs(svg, y)?;
     writeln!(
         svg,
         "<path class=\"border\" d=\"M1036 {y}m0 -4h28\"/><text x=\"1070\" y=\"{y}\" class=\"small\">border of centres</text>"
     )
 }
 
+fn draw_listed_signs(svg: &mut String, y: u64) -> Result<(), AllocError>
+    ensures { OnOk result (Draws svg.old svg.new (flat_map (λ s. legend_sign s.0 s.1 y s.2.now) SIGNS)) }
+{
+    for (sign, x, words) in &SIGNS {
+        draw_sign(svg, *sign, *x, y, words)?;
+    }
+    Ok(())
+}
+
+fn draw_listed_looks(svg: &mut String, y: u64) -> Result<(), AllocError>
+    ensures { OnOk result (Draws svg.old svg.new (flat_map (λ l. legend_box l.0.now l.1 y l.2.now) LOOKS)) }
+{
+    for (class, x, words) in &LOOKS {
+        draw_look(svg, class, *x, y, words)?;
+    }
+    Ok(())
+}
+
+/// Draws a box of this class, and its meaning.
+fn draw_look(svg: &mut String, class: &str, x: u64, y: u64, words: &str) -> Result<(), AllocError>
+    ensures { OnOk result (Draws svg.old svg.new (legend_box class.now x y words.now)) }
+{
+    write!(
+        svg,
+        "<rect class=\"{class}\" x=\"{x}\" y=\"{y}\" width=\"22\" height=\"10\" transform=\"translate(0 -9)\"/>"
+    )?;
+    draw_words(svg, x.saturating_add(28), y, words)
+}
+
 /// Draws the looks of kept or wished sections, of waiting starts, and of supervision.
 fn draw_looks(svg: &mut String, y: u64) -> Result<(), AllocError> {
-    for (class, x, words) in &LOOKS {
-        write!(
-            svg,
-            "<rect class=\"{class}\" x=\"{x}\" y=\"{y}\" width=\"22\" height=\"10\" transform=\"translate(0 -9)\"/>"
-        )?;
-        draw_words(svg, x.saturating_add(28), y, words)?;
-    }
+    draw_listed_looks(svg, y)?;
     write!(
         svg,
         "<g class=\"seat\"><circle cx=\"604\" cy=\"{y}\" r=\"4\"/><text x=\"604\" y=\"{y}\" dx=\"7\" dy=\"4\">A</text></g>"
@@ -137,7 +163,9 @@ fn draw_looks(svg: &mut String, y: u64) -> Result<(), AllocError> {
     )
 }
 
-fn draw_sign(svg: &mut String, sign: Sign, x: u64, y: u64, words: &str) -> Result<(), AllocError> {
+fn draw_sign(svg: &mut String, sign: Sign, x: u64, y: u64, words: &str) -> Result<(), AllocError>
+    ensures { OnOk result (Draws svg.old svg.new (legend_sign sign x y words.now)) }
+{
     let (class, path) = shape_of(sign);
     write!(svg, "<path class=\"{class}\" d=\"M{x} {y}m0 -3{path}\"/>")?;
     draw_words(svg, x.saturating_add(14), y, words)

@@ -1,11 +1,14 @@
 //! Draws the requests to a train, and their results, as signs.
 
-ghost use Rattle.std.specs.Prelude.{◌≡◌, ◌/◌};
-ghost use Rattle.cli_picture.specs.Missions.{end_of, goes_on, last_kept_in, shape_of};
+ghost use Rattle.std.specs.Prelude.{◌≡◌, ◌/◌, OnOk};
+ghost use Rattle.cli_picture.specs.Missions.{answer_of, end_of, goes_on, is_dropped, last_kept_in, shape_of};
+ghost use Rattle.cli_picture.specs.Requests.{answered_text, asked_text, cut_of, end_point, request_text, sign_of};
+ghost use Rattle.cli_picture.specs.Texts.{Draws};
 
 use crate::run::{Run, track_of};
 use crate::scale::Scale;
 use crate::style::colour_of;
+use rbc_line::Line;
 use rbc_place::{Place, section_end};
 use std::alloc::AllocError;
 use text_script::MissionView;
@@ -78,31 +81,67 @@ fn draw_requests(
     train: u8,
 ) -> Result<(), AllocError> {
     let (before, after) = run.missions(event, train);
-    let was = last_kept_in(before);
-    let is = last_kept_in(after);
-    if was == is {
+    if last_kept_in(before) == last_kept_in(after) {
         return Ok(());
     }
-    let end = end_of(before);
-    if let Some((_, last_kept)) = was {
-        let sign = if end_of(after) < end {
-            Sign::Granted
-        } else {
-            Sign::Dropped
-        };
-        draw_request(svg, scale, sign, last_kept, end, (train, event))?;
+    draw_answered(svg, scale, before, after, (train, event))?;
+    draw_asked(svg, scale, after, (train, event))
+}
+
+/// Draws the end of the request that was pending before. `at` has the train and the event.
+fn draw_answered(
+    svg: &mut String,
+    scale: &Scale<'_>,
+    before: Option<MissionView>,
+    after: Option<MissionView>,
+    at: (u8, usize),
+) -> Result<(), AllocError>
+    ensures { OnOk result (Draws svg.old svg.new (answered_text scale.now before after at.0 at.1)) }
+{
+    let Some((_, last_kept)) = last_kept_in(before) else {
+        return Ok(());
+    };
+    let point = end_point(scale.line, last_kept, at);
+    draw_request(svg, scale, answer_of(before, after), point, end_of(before))
+}
+
+/// Draws the request that is pending now. `at` has the train and the event.
+fn draw_asked(
+    svg: &mut String,
+    scale: &Scale<'_>,
+    after: Option<MissionView>,
+    at: (u8, usize),
+) -> Result<(), AllocError>
+    ensures { OnOk result (Draws svg.old svg.new (asked_text scale.now after at.0 at.1)) }
+{
+    let Some((_, last_kept)) = last_kept_in(after) else {
+        return Ok(());
+    };
+    let point = end_point(scale.line, last_kept, at);
+    draw_request(svg, scale, Sign::Asked, point, end_of(after))
+}
+
+/// The end of a section, as a point of a train in an event.
+fn end_point(line: &Line, section: u16, at: (u8, usize)) -> Point
+    ensures { result ≡ end_point line.now section at.0 at.1 }
+{
+    Point {
+        train: at.0,
+        event: at.1,
+        track: track_of(line, section),
+        metres: section_end(line, section.into()),
     }
-    if let Some((_, last_kept)) = is {
-        draw_request(
-            svg,
-            scale,
-            Sign::Asked,
-            last_kept,
-            end_of(after),
-            (train, event),
-        )?;
+}
+
+/// The sign of the end of a request: the train accepts it if its authority ends earlier from then on.
+fn answer_of(before: Option<MissionView>, after: Option<MissionView>) -> Sign
+    ensures { result ≡ answer_of before after }
+{
+    if end_of(after) < end_of(before) {
+        Sign::Granted
+    } else {
+        Sign::Dropped
     }
-    Ok(())
 }
 
 /// The pending request: its stamp, and the last section to keep.
@@ -124,33 +163,43 @@ fn end_of(mission: Option<MissionView>) -> u32
     }
 }
 
-/// Draws a sign at the proposed end, and a line to it from the authority's end unless the request is dropped.
+/// Draws a sign at the proposed end, and a line to it from the authority's end unless the request is dropped. The
+/// authority ends before section `end`.
 fn draw_request(
     svg: &mut String,
     scale: &Scale<'_>,
     sign: Sign,
-    last_kept: u16,
+    point: Point,
     end: u32,
-    (train, event): (u8, usize),
-) -> Result<(), AllocError> {
-    let track = track_of(scale.line, last_kept);
-    let point = Point {
-        train,
-        event,
-        track,
-        metres: section_end(scale.line, last_kept.into()),
-    };
-    if !matches!(sign, Sign::Dropped) {
-        let colour = colour_of(train);
-        let x = scale.x(track, point.metres);
-        let y = scale.y(event);
-        let reach = scale.x(track, section_end(scale.line, end.saturating_sub(1)));
-        writeln!(
-            svg,
-            "<path class=\"cut c{colour}\" d=\"M{reach} {y}H{x}\"/>"
-        )?;
+) -> Result<(), AllocError>
+    ensures { OnOk result (Draws svg.old svg.new (request_text scale.now sign point end)) }
+{
+    if !is_dropped(sign) {
+        draw_cut(svg, scale, point, end)?;
     }
     draw_sign(svg, scale, sign, point)
+}
+
+fn is_dropped(sign: Sign) -> bool
+    ensures { result ≡ is_dropped sign }
+{
+    matches!(sign, Sign::Dropped)
+}
+
+/// Draws a line to a point from the end of the authority of its train, which ends before section `end`.
+fn draw_cut(svg: &mut String, scale: &Scale<'_>, point: Point, end: u32) -> Result<(), AllocError>
+    ensures { OnOk result (Draws svg.old svg.new
+        (cut_of scale.now point end)) }
+{
+    let colour = colour_of(point.train);
+    let x = scale.x(point.track, point.metres);
+    let y = scale.y(point.event);
+    let last = end.saturating_sub(1);
+    let reach = scale.x(point.track, section_end(scale.line, last));
+    writeln!(
+        svg,
+        "<path class=\"cut c{colour}\" d=\"M{reach} {y}H{x}\"/>"
+    )
 }
 
 /// Draws a square at the end of a train's mission.
@@ -197,7 +246,9 @@ fn draw_sign(
     scale: &Scale<'_>,
     sign: Sign,
     point: Point,
-) -> Result<(), AllocError> {
+) -> Result<(), AllocError>
+    ensures { OnOk result (Draws svg.old svg.new (sign_of scale.now sign point)) }
+{
     let colour = colour_of(point.train);
     let x = scale.x(point.track, point.metres);
     let y = scale.y(point.event);

@@ -1,6 +1,9 @@
 //! Draws the supervisor of each train, and the starts of mission that wait for the right to supervise it.
 
-ghost use Rattle.std.specs.Prelude.{◌≡◌, option_and_then};
+ghost use Rattle.std.specs.Prelude.{◌≡◌, OnOk, option_and_then};
+ghost use Rattle.cli_picture.specs.Scale.{front_of, rear_of, until_of, y_of};
+ghost use Rattle.cli_picture.specs.Texts.{box_text, Draws, look_of, old_class, old_words, ring_text};
+ghost use Rattle.text_script.specs.Print.Rows.{name_at};
 ghost use Rattle.cli_picture.specs.Missions.{centre_of, way_at};
 
 use crate::fronts::has_left;
@@ -9,6 +12,7 @@ use crate::scale::Scale;
 use crate::style::colour_of;
 use rbc_place::Place;
 use std::alloc::AllocError;
+use text_script::print::name_of;
 use text_script::{MissionView, Supervisor};
 
 pub fn draw_seats(svg: &mut String, scale: &Scale<'_>, run: &Run<'_>) -> Result<(), AllocError> {
@@ -71,6 +75,13 @@ fn draw_rings(
     Ok(())
 }
 
+/// The ring of a centre, and whether the mission has an older place than the train has reported.
+#[derive(Clone, Copy)]
+struct Ring {
+    centre: u8,
+    is_old: bool,
+}
+
 // The ring is dashed, and has words, if the mission has an older place than the train has reported.
 fn draw_ring(
     svg: &mut String,
@@ -83,19 +94,45 @@ fn draw_ring(
     let Some(centre) = centre else {
         return Ok(());
     };
-    let colour = colour_of(train);
+    let is_old = has_left(run, event, train, place);
+    draw_circle(svg, scale, (train, event), place, Ring { centre, is_old })
+}
+
+// Draws the ring itself, at a place. `at` has the train and the event.
+fn draw_circle(
+    svg: &mut String,
+    scale: &Scale<'_>,
+    at: (u8, usize),
+    place: &Place,
+    ring: Ring,
+) -> Result<(), AllocError>
+    ensures { OnOk result (Draws svg.old svg.new (ring_text at.0 ring.is_old
+        (front_of scale.now.line.now place.now) (y_of scale.now at.1) (name_at scale.now.line.now ring.centre))) }
+{
+    let Ring { centre, is_old } = ring;
+    let colour = colour_of(at.0);
     let x = scale.front(place);
-    let y = scale.y(event);
-    let name = scale.line.centre_name(centre).unwrap_or("?");
-    let (old, words) = if has_left(run, event, train, place) {
-        (" old", ": place in its mission")
-    } else {
-        ("", "")
-    };
+    let y = scale.y(at.1);
+    let name = name_of(scale.line, centre);
+    let old = old_class(is_old);
+    let words = old_words(is_old);
     writeln!(
         svg,
         "<g class=\"seat{old} c{colour}\"><circle cx=\"{x}\" cy=\"{y}\" r=\"4\"/><text x=\"{x}\" y=\"{y}\" dx=\"7\" dy=\"4\">{name}{words}</text></g>"
     )
+}
+
+// The class and the words of a ring at an older place.
+fn old_class(is_old: bool) -> &'static str
+    ensures { result.now ≡ old_class is_old }
+{
+    if is_old { " old" } else { "" }
+}
+
+fn old_words(is_old: bool) -> &'static str
+    ensures { result.now ≡ old_words is_old }
+{
+    if is_old { ": place in its mission" } else { "" }
 }
 
 /// Draws a box while a mission is on the way from one centre to the next. It is hollow if the mission has an older
@@ -112,11 +149,22 @@ fn draw_ways(
         let place = way_in(after);
         if let Some((since, place)) = ended(way, place) {
             let look = if has_left(run, e, train, &place) {
-                OLD_WAY
+                Look::OldWay
             } else {
-                WAY
+                Look::Way
             };
-            draw_box(svg, scale, train, look, (since, e), &place)?;
+            let until = e;
+            draw_box(
+                svg,
+                scale,
+                look,
+                Stay {
+                    train,
+                    since,
+                    until,
+                },
+                &place,
+            )?;
         }
         way = followed(way, place, e);
     }
@@ -138,21 +186,52 @@ fn draw_waits(
                 Some(next) => next.since,
                 None => run.events.len(),
             };
-            draw_box(svg, scale, train, WAIT, (wait.since, until), &place)?;
+            let since = wait.since;
+            draw_box(
+                svg,
+                scale,
+                Look::Wait,
+                Stay {
+                    train,
+                    since,
+                    until,
+                },
+                &place,
+            )?;
         }
     }
     Ok(())
 }
 
-// The classes and the descriptions of the boxes.
-const WAY: (&str, &str) = ("way", "on the way from one centre to the next");
+/// The look of a box: a mission on the way, one at an older place than its train has reported, or a start that waits.
+#[derive(Clone, Copy)]
+enum Look {
+    Way,
+    OldWay,
+    Wait,
+}
 
-const OLD_WAY: (&str, &str) = (
-    "way old",
-    "on the way from one centre to the next, at the place in its mission",
-);
+/// The class and the description of a box.
+fn look_of(look: Look) -> (&'static str, &'static str)
+    ensures { look_of look ≡ (result.0.now, result.1.now) }
+{
+    match look {
+        Look::Way => ("way", "on the way from one centre to the next"),
+        Look::OldWay => (
+            "way old",
+            "on the way from one centre to the next, at the place in its mission",
+        ),
+        Look::Wait => ("wait", "a start of mission that waits"),
+    }
+}
 
-const WAIT: (&str, &str) = ("wait", "a start of mission that waits");
+/// The train of a box, and the events from which on and up to which it is there.
+#[derive(Clone, Copy)]
+struct Stay {
+    train: u8,
+    since: usize,
+    until: usize,
+}
 
 /// The mark that has lasted at a place since an event, if it is not there any more.
 fn ended(was: Option<(usize, Place)>, place: Option<Place>) -> Option<(usize, Place)> {
@@ -177,20 +256,24 @@ fn followed(
     }
 }
 
-/// Draws a box at a place, from an event to another one.
+/// Draws a box at a place.
 fn draw_box(
     svg: &mut String,
     scale: &Scale<'_>,
-    train: u8,
-    (class, words): (&str, &str),
-    (since, until): (usize, usize),
+    look: Look,
+    stay: Stay,
     place: &Place,
-) -> Result<(), AllocError> {
-    let colour = colour_of(train);
+) -> Result<(), AllocError>
+    ensures { OnOk result (Draws svg.old svg.new (box_text stay.train (look_of look).0 (look_of look).1
+        (front_of scale.now.line.now place.now) (rear_of scale.now.line.now place.now place.now.rear)
+        (y_of scale.now stay.since) (until_of scale.now stay.until))) }
+{
+    let (class, words) = look_of(look);
+    let colour = colour_of(stay.train);
     let right = scale.front(place);
     let left = scale.rear(place);
-    let y = scale.y(since);
-    let bottom = scale.until(until);
+    let y = scale.y(stay.since);
+    let bottom = scale.until(stay.until);
     writeln!(
         svg,
         "<path class=\"{class} c{colour}\" d=\"M{right} {y}V{bottom}H{left}V{y}z\"><title>{words}</title></path>"
