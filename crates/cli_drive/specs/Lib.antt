@@ -2,12 +2,17 @@ pub mod Answers
 pub mod Apart
 pub mod Calls
 pub mod Changes
+pub mod Commands
 pub mod Connections
+pub mod Failures
 pub mod Fronts
 pub mod Inboxes
 pub mod Lines
+pub mod Messages
 pub mod Obedience
 pub mod Radios
+pub mod Releases
 pub mod Replies
 pub mod Reports
+pub mod Rows
 pub mod Steps

@@ -1,6 +1,9 @@
 //! The connections of trains to centres.
 
-ghost use Rattle.std.specs.Prelude.{◌≡◌, ◌+◌, ◌-◌, ◌<◌, Err, if◌then◌else◌, IfOk, nat_le, None, OnOk, Some};
+ghost use Rattle.std.specs.Prelude.{◌≡◌, ◌+◌, ◌++◌, ◌-◌, ◌<◌, if◌then◌else◌, nat_le, None, Some};
+ghost use Rattle.std.specs.Prelude.{IfOk, map, OnOk};
+ghost use Rattle.std.specs.Prelude.{Err};
+ghost use Rattle.cli_drive.specs.Calls.{ports};
 ghost use Rattle.cli_drive.specs.declared.trains.fault.TrainsFault.TheVariants.{Socket};
 
 use crate::trains::connection::Connection;
@@ -18,7 +21,7 @@ pub(crate) struct Calls {
 }
 
 impl Calls {
-    ghost use Rattle.cli_drive.specs.Calls.{place_of};
+    ghost use Rattle.cli_drive.specs.Calls.{place_of, ports_of_trains};
     ghost use Rattle.cli_drive.specs.Changes.{ChangesAt};
     ghost use Rattle.cli_drive.specs.Connections.{HasEnded, HasRead};
     ghost use Rattle.cli_drive.specs.Reports.{opened};
@@ -32,6 +35,8 @@ impl Calls {
         first: u16,
     ) -> Result<Calls, TrainsFault>
         ensures centres { IfOk result (λ calls. calls.centres ≡ centres) }
+        ensures ports { IfOk result (λ calls. map (λ connection. connection.port) calls.connections.items
+            ≡ ports_of_trains first centres trains) }
         ensures fits { result ≡ Err Socket → 65535 < first + (centres - 1) }
     {
         let mut connections = Vec::new(alloc);
@@ -126,7 +131,9 @@ fn add_connections(
     centres: u8,
     first: u16,
 ) -> Result<(), TrainsFault>
-    ensures { result ≡ Err Socket → 65535 < first + (centres - 1) }
+    ensures ports { OnOk result (map (λ connection. connection.port) connections.new.items
+        ≡ map (λ connection. connection.port) connections.old.items ++ ports first centres) }
+    ensures fits { result ≡ Err Socket → 65535 < first + (centres - 1) }
 {
     for centre in 0..centres {
         let port = port_after(first, centre).ok_or(TrainsFault::Socket)?;

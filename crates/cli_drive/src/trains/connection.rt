@@ -3,6 +3,7 @@
 ghost use Rattle.std.specs.Prelude.{[], ◌&&◌, ◌+◌, ◌-◌, ◌<◌, ◌≡◌, ◌≤◌, ◌^◌, Err, is_some, min, nat_le, None, not, Ok};
 ghost use Rattle.std.specs.Prelude.{true};
 ghost use Rattle.std.specs.Prelude.{false, OnOk};
+ghost use Rattle.cli_drive.specs.Failures.{is_nothing};
 ghost use Rattle.cli_drive.specs.declared.trains.fault.TrainsFault.TheVariants.{Socket};
 
 use crate::trains::fault::TrainsFault;
@@ -191,7 +192,9 @@ impl Connection {
 }
 
 // Whether a read has only found nothing yet.
-fn is_nothing(kind: ErrorKind) -> bool {
+fn is_nothing(kind: ErrorKind) -> bool
+    ensures { result ≡ is_nothing kind }
+{
     matches!(
         kind,
         ErrorKind::WouldBlock | ErrorKind::TimedOut | ErrorKind::Interrupted

@@ -1,6 +1,7 @@
 //! The radio: messages between trains and centres are lost, late or repeated by lot.
 
 ghost use Rattle.std.specs.Prelude.{[], ◌+◌, ◌++◌, ◌-◌, ◌^◌, ◌<◌, ◌≡◌, ◌∷◌, IfOk, IfSome, length, min, OnErr, OnOk};
+ghost use Rattle.std.specs.Prelude.{OnSome, vec_len};
 ghost use Rattle.std.specs.List.{position};
 ghost use Rattle.cli_drive.specs.Radios.{Arrives, is_due};
 
@@ -88,7 +89,8 @@ impl Radio {
 
     /// The first message on the way that is due, in this direction.
     pub(crate) fn arrival(&mut self, now: u32, is_up: bool) -> Option<Letter>
-        ensures { Arrives now is_up self.old.letters.items self.new.letters.items result }
+        ensures arrives { Arrives now is_up self.old.letters.items self.new.letters.items result }
+        ensures fewer { OnSome result (vec_len self.new.letters + 1 ≡ vec_len self.old.letters) }
     {
         let place = first_due(&self.letters, now, is_up)?;
         Some(self.letters.remove(place))

@@ -1,9 +1,8 @@
 //! Which sections the interlocking releases.
 
 ghost use Rattle.std.specs.Option.{option_map_or};
-ghost use Rattle.std.specs.List.{list_any};
-ghost use Rattle.std.specs.Prelude.{◌&&◌, ◌≡◌, false, not, slice_get};
-ghost use Rattle.train_unit.specs.Standing.{stands_on};
+ghost use Rattle.std.specs.Prelude.{◌≡◌, false, Ok, slice_get};
+ghost use Rattle.cli_drive.specs.Releases.{free_after, has_hidden, is_under_hidden};
 
 use crate::trains::fault::TrainsFault;
 use crate::trains::seconds::Running;
@@ -18,7 +17,11 @@ const AHEAD: usize = 4;
 
 impl<R: Net<Stream = TcpStream> + Clock> Running<'_, R> {
     /// The interlocking releases the section of each train, and sections in advance of a train that is accepted.
-    pub(crate) fn release(&mut self) -> Result<(), TrainsFault> {
+    pub(crate) fn release(&mut self) -> Result<(), TrainsFault>
+        ensures shut { self.old.settings.is_releasing ≡ false → (result ≡ Ok tt) × (self.new ≡ self.old) }
+        ensures trains { self.new.trains ≡ self.old.trains }
+        ensures sections { self.new.interlocking.sections ≡ self.old.interlocking.sections }
+    {
         if !self.settings.is_releasing {
             return Ok(());
         }
@@ -35,7 +38,10 @@ impl<R: Net<Stream = TcpStream> + Clock> Running<'_, R> {
         Ok(())
     }
 
-    fn release_ahead(&mut self, section: usize) -> Result<(), TrainsFault> {
+    fn release_ahead(&mut self, section: usize) -> Result<(), TrainsFault>
+        ensures trains { self.new.trains ≡ self.old.trains }
+        ensures sections { self.new.interlocking.sections ≡ self.old.interlocking.sections }
+    {
         for s in section..section.saturating_add(AHEAD) {
             let Some(next) = self.next_free(s) else {
                 break;
@@ -45,14 +51,19 @@ impl<R: Net<Stream = TcpStream> + Clock> Running<'_, R> {
         Ok(())
     }
 
-    fn release_one(&mut self, section: usize) -> Result<(), TrainsFault> {
+    fn release_one(&mut self, section: usize) -> Result<(), TrainsFault>
+        ensures trains { self.new.trains ≡ self.old.trains }
+        ensures sections { self.new.interlocking.sections ≡ self.old.interlocking.sections }
+    {
         self.interlocking
             .release(self.rt, self.line, section, self.now)
     }
 
     // The section after this one on its track. None if a train that no centre has accepted is on it or on the next. The
     // own section of that train is released, so the one in rear of it has to be shut.
-    fn next_free(&self, s: usize) -> Option<usize> {
+    fn next_free(&self, s: usize) -> Option<usize>
+        ensures { result ≡ free_after self.entry.now.interlocking.sections.items self.entry.now.trains.items s }
+    {
         let next = s.saturating_add(1);
         let is_first = self.interlocking.sections.get(next)?.start == 0;
         if is_first || self.is_hidden(next) || self.is_hidden(next.saturating_add(1)) {
@@ -62,7 +73,9 @@ impl<R: Net<Stream = TcpStream> + Clock> Running<'_, R> {
     }
 
     // Whether a train that no centre has accepted is on this section.
-    fn is_hidden(&self, section: usize) -> bool {
+    fn is_hidden(&self, section: usize) -> bool
+        ensures { result ≡ has_hidden self.entry.now.interlocking.sections.items self.entry.now.trains.items section }
+    {
         match self.interlocking.sections.get(section) {
             Some(section) => is_under_hidden(section, &self.trains),
             None => false,
@@ -82,7 +95,7 @@ impl<R: Net<Stream = TcpStream> + Clock> Running<'_, R> {
 
 // Whether one of the trains that no centre has accepted is on the section.
 fn is_under_hidden(section: &Section, trains: &[Train]) -> bool
-    ensures { result ≡ list_any (λ train. not train.driver.is_accepted && stands_on section.now train.ends) trains.now }
+    ensures { result ≡ is_under_hidden section.now trains.now }
 {
     trains.iter().any(|train| !train.driver.is_accepted && covers(section, train.ends))
 }

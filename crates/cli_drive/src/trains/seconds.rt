@@ -1,7 +1,14 @@
 //! The seconds of trains over TCP.
 
-ghost use Rattle.std.specs.Prelude.{◌≡◌, slice_get};
-ghost use Rattle.cli_drive.specs.Fronts.{front_section};
+ghost use Rattle.std.specs.Prelude.{◌&&◌, ◌+◌, ◌<◌, ◌≡◌, Err, IfOk, length, map, OnOk, slice_get};
+ghost use Rattle.cli_drive.specs.Apart.{are_apart};
+ghost use Rattle.cli_drive.specs.Changes.{ChangesAt};
+ghost use Rattle.cli_drive.specs.Fronts.{front_section, place_of};
+ghost use Rattle.cli_drive.specs.Obedience.{ends_of, HasRun, KeepsEnds, RunByRules, RunsByRules};
+ghost use Rattle.std.specs.List.{position};
+ghost use Rattle.std.specs.Prelude.{None, true};
+ghost use Rattle.cli_drive.specs.Radios.{is_due};
+ghost use Rattle.cli_drive.specs.declared.trains.fault.TrainsFault.TheVariants.{Socket};
 
 use crate::trains::calls::{Calls, port_after};
 use crate::trains::check::are_apart;
@@ -14,12 +21,13 @@ use crate::trains::settings::Settings;
 use crate::trains::train::Train;
 use rand::SeedableRng;
 use rand_pcg::Pcg32;
-use rbc_line::Line;
-use std::alloc::Global;
+use rbc_line::{Line, Section};
+use std::alloc::{AllocError, Global};
 use std::io::Write;
 use std::net::{Net, TcpStream};
 use std::thread;
 use std::time::{Clock, Duration};
+use train_unit::Ends;
 use train_unit::driving::placed_on;
 
 /// Trains that run over the centres of a line.
@@ -48,17 +56,29 @@ pub fn run<R: Net<Stream = TcpStream> + Clock + AllocGlobal, P: Observer, W: Wri
     settings: Settings,
     observer: &P,
     out: &mut W,
-) -> Result<bool, TrainsFault> {
-    let alloc = rt.alloc();
+) -> Result<bool, TrainsFault>
+    ensures { 65535 < settings.port + length line.now.centres → result ≡ Err Socket }
+{
+    let mut run = begun(rt, rt.alloc(), line, settings)?;
+    run.all(observer, out)?;
+    Ok(run.tally.are_apart)
+}
+
+// The trains at their first places. No connection is open yet.
+fn begun<'a, R>(
+    rt: &'a R,
+    alloc: Global,
+    line: &'a Line,
+    settings: Settings,
+) -> Result<Running<'a, R>, TrainsFault>
+    ensures { 65535 < settings.port + length line.entry.now.centres → result ≡ Err Socket }
+{
     let centres = line.centre_count();
     let control = port_after(settings.port, centres).ok_or(TrainsFault::Socket)?;
     let interlocking = Interlocking::new(alloc, line, control)?;
-    let mut trains = Vec::new(alloc);
-    for place in placed_on(alloc, line, &interlocking.sections, settings.trains)? {
-        trains.push(Train::new(place))?;
-    }
+    let trains = first_trains(alloc, line, &interlocking.sections, settings.trains)?;
     let calls = Calls::new(alloc, trains.len(), centres, settings.port)?;
-    let mut run = Running {
+    Ok(Running {
         rt,
         alloc,
         line,
@@ -70,9 +90,21 @@ pub fn run<R: Net<Stream = TcpStream> + Clock + AllocGlobal, P: Observer, W: Wri
         draws: Pcg32::seed_from_u64(settings.seed),
         now: 1_000,
         tally: Tally::new(),
-    };
-    run.all(observer, out)?;
-    Ok(run.tally.are_apart)
+    })
+}
+
+// The trains at their first places.
+fn first_trains(
+    alloc: Global,
+    line: &Line,
+    sections: &[Section],
+    most: u8,
+) -> Result<Vec<Train>, AllocError> {
+    let mut trains = Vec::new(alloc);
+    for place in placed_on(alloc, line, sections, most)? {
+        trains.push(Train::new(place))?;
+    }
+    Ok(trains)
 }
 
 impl<R: Net<Stream = TcpStream> + Clock> Running<'_, R> {
@@ -92,30 +124,72 @@ impl<R: Net<Stream = TcpStream> + Clock> Running<'_, R> {
         &mut self,
         observer: &P,
         out: &mut W,
-    ) -> Result<(), TrainsFault> {
+    ) -> Result<(), TrainsFault>
+        ensures { OnOk result (RunByRules self.old.trains.items self.new.trains.items) }
+    {
         self.now = self.now.saturating_add(100);
         self.release()?;
+        self.move_all()?;
+        self.send_due()?;
+        thread::sleep(self.rt, Duration::from_millis(self.settings.second_ms));
+        self.listen(out)?;
+        self.look(observer)?;
+        self.show_often(out)?;
+        Ok(())
+    }
+
+    // Each train runs, and sends its messages.
+    #[tactic(auto, using(crate::proofs::Moving::all_moved))]
+    fn move_all(&mut self) -> Result<(), TrainsFault>
+        ensures { OnOk result (RunByRules self.old.trains.items self.new.trains.items) }
+    {
         for i in 0..self.trains.len() {
-            if let Some(train) = self.trains.get_mut(i) {
-                train.run(&mut self.draws);
-            }
-            self.speak(i)?;
+            self.move_one(i)?;
         }
-        for _ in 0..u64::MAX {
-            let Some(letter) = self.radio.arrival(self.now, true) else {
-                break;
-            };
+        Ok(())
+    }
+
+    // A train runs, and sends its messages.
+    fn move_one(&mut self, i: usize) -> Result<(), TrainsFault>
+        ensures { OnOk result (ChangesAt RunsByRules i self.old.trains.items self.new.trains.items) }
+    {
+        self.run_one(i);
+        self.speak(i)?;
+        Ok(())
+    }
+
+    fn run_one(&mut self, i: usize)
+        ensures { ChangesAt HasRun i self.old.trains.items self.new.trains.items }
+    {
+        if let Some(train) = self.trains.get_mut(i) {
+            train.run(&mut self.draws);
+        }
+    }
+
+    // Messages that are due arrive at their centres.
+    fn send_due(&mut self) -> Result<(), TrainsFault>
+        ensures trains { self.new.trains ≡ self.old.trains }
+        ensures sent { OnOk result (position (is_due self.old.now true) self.new.radio.letters.items ≡ None) }
+    {
+        while let Some(letter) = self.radio.arrival(self.now, true) {
             self.calls.send(self.rt, &letter, self.now)?;
         }
-        thread::sleep(self.rt, Duration::from_millis(self.settings.second_ms));
+        Ok(())
+    }
+
+    // Messages of centres come, and those that are due arrive at their trains.
+    fn listen<W: Write>(&mut self, out: &mut W) -> Result<(), TrainsFault>
+        ensures { ends_of self.new.trains.items ≡ ends_of self.old.trains.items }
+    {
         self.collect()?;
-        self.deliver(out)?;
-        self.look(observer)?;
-        self.show_often(out)
+        self.deliver(out)
     }
 
     // A train sends the message that is due to each centre.
-    fn speak(&mut self, i: usize) -> Result<(), TrainsFault> {
+    #[tactic(auto, using(crate::proofs::Moving::kept))]
+    fn speak(&mut self, i: usize) -> Result<(), TrainsFault>
+        ensures { OnOk result (ChangesAt KeepsEnds i self.old.trains.items self.new.trains.items) }
+    {
         let Some(section) = self.section_of(i) else {
             return Ok(());
         };
@@ -123,20 +197,28 @@ impl<R: Net<Stream = TcpStream> + Clock> Running<'_, R> {
             return Ok(());
         };
         for centre in 0..self.line.centre_count() {
-            let Some(train) = self.trains.get_mut(i) else {
-                return Ok(());
+            self.speak_to(i, centre, section)?;
+        }
+        Ok(())
+    }
+
+    // A train on this section sends the message that is due to a centre.
+    fn speak_to(&mut self, i: usize, centre: u8, section: Section) -> Result<(), TrainsFault>
+        ensures { OnOk result (ChangesAt KeepsEnds i self.old.trains.items self.new.trains.items) }
+    {
+        let Some(train) = self.trains.get_mut(i) else {
+            return Ok(());
+        };
+        let said = train.speak(self.alloc, self.line, centre, section, self.now)?;
+        if let Some(bytes) = said {
+            let letter = Letter {
+                train: i,
+                centre,
+                is_up: true,
+                bytes,
+                due: self.now,
             };
-            let said = train.speak(self.alloc, self.line, centre, section, self.now)?;
-            if let Some(bytes) = said {
-                let letter = Letter {
-                    train: i,
-                    centre,
-                    is_up: true,
-                    bytes,
-                    due: self.now,
-                };
-                self.radio.send(&mut self.draws, letter)?;
-            }
+            self.radio.send(&mut self.draws, letter)?;
         }
         Ok(())
     }
@@ -162,21 +244,42 @@ impl<R: Net<Stream = TcpStream> + Clock> Running<'_, R> {
     }
 
     // Looks at the true places of all trains, and shows them to the observer.
-    fn look<P: Observer>(&mut self, observer: &P) -> Result<(), TrainsFault> {
-        let mut ends = Vec::new(self.alloc);
-        let mut places = Vec::new(self.alloc);
-        for train in &self.trains {
-            ends.push(train.ends)?;
-            places.push(TruePlace {
-                nid_engine: train.unit.nid_engine(),
-                track: train.ends.track,
-                front: train.ends.front,
-                rear: train.ends.rear,
-            })?;
-        }
+    fn look<P: Observer>(&mut self, observer: &P) -> Result<(), TrainsFault>
+        ensures trains { self.new.trains ≡ self.old.trains }
+        ensures apart { OnOk result (self.new.tally.are_apart ≡ self.old.tally.are_apart
+            && are_apart self.old.interlocking.sections.items (ends_of self.old.trains.items)) }
+    {
+        let ends = ends_of(self.alloc, &self.trains)?;
         let were_apart = are_apart(&self.interlocking.sections, &ends);
         self.tally.check(were_apart);
+        let places = places_of(self.alloc, &self.trains)?;
         observer.see(&places)?;
         Ok(())
+    }
+}
+
+// The true ends of trains.
+fn ends_of(alloc: Global, trains: &[Train]) -> Result<Vec<Ends>, AllocError>
+    ensures { IfOk result (λ ends. ends.items ≡ ends_of trains.now) }
+{
+    trains.iter().map(|train| train.ends).collect(alloc)
+}
+
+// The true places of trains.
+fn places_of(alloc: Global, trains: &[Train]) -> Result<Vec<TruePlace>, AllocError>
+    ensures { IfOk result (λ places. places.items ≡ map place_of trains.now) }
+{
+    trains.iter().map(|train| place_of(train)).collect(alloc)
+}
+
+// The true place of a train.
+fn place_of(train: &Train) -> TruePlace
+    ensures { result ≡ place_of train.now }
+{
+    TruePlace {
+        nid_engine: train.unit.nid_engine(),
+        track: train.ends.track,
+        front: train.ends.front,
+        rear: train.ends.rear,
     }
 }

@@ -100,6 +100,7 @@ impl Train {
             × (train_at self.new ≡ rules.says centre (step_message m) (train_at self.old)))) }
         ensures silent { IfOk result (λ said. said ≡ None → train_at self.new ≡ train_at self.old) }
         ensures err { OnErr result (train_at self.new ≡ train_at self.old) }
+        ensures ends { self.new.ends ≡ self.old.ends }
     {
         self.driver.engage(section.home, now);
         self.driver.reopen(centre, now);
@@ -150,8 +151,9 @@ impl Train {
 
     /// It receives a message of a centre. Returns whether it follows another centre since then.
     pub(crate) fn hear(&mut self, line: &Line, centre: u8, message: &TrackMsg, now: u32) -> bool
-        ensures { centre < length line.now.centres → train_at self.new
+        ensures hears { centre < length line.now.centres → train_at self.new
             ≡ rules.hears line.now centre message.now message.now.body (train_at self.old) }
+        ensures ends { self.new.ends ≡ self.old.ends }
     {
         if centre >= line.centre_count() {
             return false;
