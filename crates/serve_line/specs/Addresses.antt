@@ -3,7 +3,9 @@ use Rattle.std.specs.Arc.{arc_value}
 use Rattle.std.specs.declared.sync.Arc.{Arc}
 use Rattle.std.specs.declared.alloc.Global.{Global}
 use Rattle.std.specs.declared.net.TcpStream.{TcpStream}
-use Rattle.std.specs.Prelude.{◌≡◌, Bool, false, None, Option, Some, true}
+use Rattle.std.specs.Net.Socket.{socket_port}
+use Rattle.std.specs.Prelude.{◌≡◌, Bool, false, None, Option, Some, true, ℕ}
+use Rattle.serve_line.specs.declared.clients.entrance.Entrance.{Entrance}
 use Rattle.serve_line.specs.declared.state.streams.Address.{Address}
 use Rattle.serve_line.specs.declared.state.streams.Address.TheVariants.{Path, Port}
 use Rattle.serve_line.specs.declared.state.streams.Listener.{Listener}
@@ -16,6 +18,11 @@ abbrev pub is_port : Address → Bool
 is_port (Port address) = true
 is_port (Path path) = false
 
+-- the number of the port; 0 of a Unix socket
+abbrev pub port_number : Address → ℕ
+port_number (Port address) = socket_port address
+port_number (Path path) = 0
+
 -- the listener is that of a port, and not of a Unix socket
 abbrev pub listens_at_port : Listener → Bool
 listens_at_port (listener.Tcp source) = true
@@ -25,6 +32,10 @@ listens_at_port (listener.Unix source) = false
 abbrev pub is_tcp : PeerStream → Bool
 is_tcp (Tcp stream) = true
 is_tcp (Unix stream) = false
+
+-- both accept connections of the same listener, and both may have a file in reserve or neither
+abbrev pub IsSameSource : Entrance → Entrance → Type 0
+IsSameSource old new = (new.listener ≡ old.listener) × (new.has_reserve ≡ old.has_reserve)
 
 -- the connection over a port, if it is one
 abbrev pub tcp_of : PeerStream → Option (Arc TcpStream Global)

@@ -12,6 +12,7 @@ use Rattle.serve_line.specs.declared.state.peer.DirectedLink.{DirectedLink}
 use Rattle.serve_line.specs.declared.state.peer.Peer.{Peer}
 use Rattle.serve_line.specs.declared.state.peer.Peer.TheVariants.{Interlocking, Trains}
 use Rattle.serve_line.specs.declared.state.sink.CentreSink.{CentreSink}
+use Rattle.serve_line.specs.declared.state.slots.Endpoint.{Endpoint}
 use Rattle.serve_line.specs.declared.state.slots.Slot.{Slot}
 
 -- ## Links
@@ -42,6 +43,18 @@ abbrev pub slot_places : Line → List Node → ℕ → List (ℕ × Bool)
 slot_places line nodes number =
     option_map_or (λ node. map (λ n. (n, false)) (range_with_len 0 (length line.trains + 8))) (slice_get nodes number)
     control_places
+
+-- the peer of an endpoint, and the places of its slots
+abbrev pub seats_of : Endpoint → Peer × List (ℕ × Bool)
+seats_of endpoint = (endpoint.peer, map place_of endpoint.slots.items)
+
+-- those of the endpoint of this number
+abbrev pub seats_at : Line → List Node → ℕ → Peer × List (ℕ × Bool)
+seats_at line nodes number = (peer_at nodes number, slot_places line nodes number)
+
+-- those of the control endpoint
+abbrev pub control_seats : Peer × List (ℕ × Bool)
+control_seats = (Interlocking, control_places)
 
 -- ## Connections and sinks
 

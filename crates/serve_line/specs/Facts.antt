@@ -18,7 +18,7 @@ use Rattle.serve_notes.specs.declared.kinds.Kind.{Kind}
 use Rattle.serve_notes.specs.declared.kinds.Kind.TheVariants as kind
 use Rattle.text_script.specs.Print.Rows.{name_at}
 use Rattle.text_script.specs.rbc_centre.Listed.{list_of}
-use Rattle.text_script.specs.rbc_centre.Views.{event_of, outcome_of, word_of}
+use Rattle.text_script.specs.rbc_centre.Views.{event_of, outcome_of}
 
 -- train t ends its mission by message 150
 abbrev pub ended_by : ℕ → TrainBody → Option Fact

@@ -4,4 +4,3 @@ pub mod Noting
 pub mod Resuming
 pub mod Times
 pub mod Waiting
-pub mod Written

@@ -1,7 +1,9 @@
 pub mod Addresses
 pub mod Admissions
 pub mod Answering
+pub mod Browsers
 pub mod Building
+pub mod Commits
 pub mod Directions
 pub mod Facts
 pub mod Failures
@@ -17,6 +19,7 @@ pub mod Mentions
 pub mod News
 pub mod Pages
 pub mod Peers
+pub mod Prints
 pub mod Refusals
 pub mod Rooms
 pub mod Rows

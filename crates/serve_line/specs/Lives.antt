@@ -1,13 +1,16 @@
 -- The used part of a centre's life.
-use Rattle.std.specs.List.{fold, range_with_len}
-use Rattle.std.specs.Prelude.{◌≡◌, if◌then◌else◌, length, max, nat_le, None, Option, Some, ℕ}
+use Rattle.std.specs.Fmt.{decimal}
+use Rattle.std.specs.List.{flat_map, fold, range_with_len}
+use Rattle.std.specs.Prelude.{[], ◌++◌, ◌≡◌, codes, List, if◌then◌else◌, length, max, nat_le, None, Option, Some, ℕ}
 use Rattle.rbc_log.specs.Log.{LogValue, most_entries}
+use Rattle.rbc_spec.specs.Line.{is_linked, Line}
 use Rattle.rbc_spec.specs.Step.{ClockEnd, LinkFull, Refusal, refusal, Set}
 use Rattle.serve_line.specs.declared.status.life.Life.{Life}
 use Rattle.serve_line.specs.Stamps.{last_stamp}
 use Rattle.serve_line.specs.Usage.{mark_of}
 use Rattle.text_page.specs.declared.view.End.{End}
 use Rattle.text_page.specs.declared.view.End.TheVariants as end
+use Rattle.text_script.specs.Print.Rows.{name_at}
 use Rattle.text_script.specs.rbc_centre.declared.centre.Centre.{Centre}
 use Rattle.text_script.specs.rbc_centre.States.{line_of, number_of, state_of}
 
@@ -35,3 +38,31 @@ pub record IsNoted (used : ℕ × ℕ × ℕ) (old new : Life) : Type 0 where
   pub log : new.log.noted ≡ max old.log.noted (mark_of used.0 1000000)
   pub clock : new.clock.noted ≡ max old.clock.noted (mark_of used.1 1073741823)
   pub link : new.link.noted ≡ max old.link.noted (mark_of used.2 65536)
+
+-- ## The rows after an answer to `show`
+
+-- a count of the most that it may be, at the end of a row
+abbrev pub used_up : ℕ → ℕ → List ℕ
+used_up used most = decimal used ++ (codes " of " ++ (decimal most ++ codes "\n"))
+
+-- the usage of a centre's log
+abbrev pub log_row : Line → LogValue → List ℕ
+log_row line l = name_at line (number_of l.core) ++ (codes " log " ++ used_up (length l.entries) 1000000)
+
+-- the usage of a centre's clock
+abbrev pub clock_row : Line → LogValue → List ℕ
+clock_row line l = name_at line (number_of l.core) ++ (codes " clock " ++ used_up (last_stamp l.entries) 1073741823)
+
+-- the usage of the link from a centre to centre d, if they are linked
+abbrev pub link_row : Line → Centre → ℕ → List ℕ
+link_row line k d =
+    if is_linked line (number_of k) d
+    then name_at line (number_of k) ++ (codes " link " ++ (name_at line d ++ (codes " "
+    ++ used_up (length ((state_of k).sent d)) 65536)))
+    else []
+
+-- the usage of a centre's log, of its clock, and of each of its links follow the text
+abbrev pub AddsUsage : Line → LogValue → List ℕ → List ℕ → Type 0
+AddsUsage line l old new =
+    new ≡ ((old ++ log_row line l) ++ clock_row line l)
+    ++ flat_map (link_row line l.core) (range_with_len 0 (length line.centres))

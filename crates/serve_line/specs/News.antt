@@ -1,7 +1,7 @@
 -- The notable events of the page.
 use Rattle.std.specs.List.{list_any}
 use Rattle.std.specs.Option.{option_map_or}
-use Rattle.std.specs.Prelude.{◌||◌, Bool, false, is_some, List, not, Option, option_map, slice_get, true, ℕ}
+use Rattle.std.specs.Prelude.{◌||◌, ◌≡◌, Bool, false, is_some, List, not, Option, option_map, slice_get, true, ℕ}
 use Rattle.rbc_log.specs.declared.entry.Entry.{Entry}
 use Rattle.rbc_spec.specs.Frame.{Announce, Body, Cancel, TakingOver, Yield}
 use Rattle.rbc_spec.specs.Message.{Report, Request, SessionEstablished, TrainBody, TrainData}
@@ -47,3 +47,10 @@ is_news e =
 -- the time that is known of the event at place i: that of these events, or else its own
 abbrev pub time_at : List Told → ℕ → Option EventNow → Option (Option ℕ)
 time_at told i event = option_map (λ e. option_map_or (λ t. t.time_ms) (slice_get told i) e.time_ms) event
+
+-- it is the same event, and a time that was known stays
+pub record KeepsEvent (old new : Told) : Type 0 where
+  pub centre : new.centre ≡ old.centre
+  pub place : new.place ≡ old.place
+  pub words : new.words ≡ old.words
+  pub time : is_some old.time_ms ≡ true → new.time_ms ≡ old.time_ms

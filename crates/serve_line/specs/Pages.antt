@@ -1,5 +1,5 @@
 -- The line as the page shows it.
-use Rattle.std.specs.Prelude.{◌==◌, if◌then◌else◌, length, List, slice_get, slice_set, ℕ}
+use Rattle.std.specs.Prelude.{◌==◌, if◌then◌else◌, length, List, slice_get, slice_set}
 use Rattle.std.specs.Option.{option_map_or}
 use Rattle.rbc_log.specs.Log.{LogValue}
 use Rattle.serve_line.specs.declared.directions.Direction.{Direction}

@@ -1,7 +1,7 @@
 -- The time of an answer to the interlocking.
 use Rattle.std.specs.declared.time.Instant.{Instant}
 use Rattle.std.specs.Option.{option_map_or}
-use Rattle.std.specs.Prelude.{◌-◌, ◌/◌, Bool, nat_le, Option, true, ℕ}
+use Rattle.std.specs.Prelude.{◌-◌, ◌/◌, Bool, nat_le, Option, true}
 use Rattle.std.specs.Time.{instant_nanos}
 
 -- ten seconds have passed since the first moment, or the clock gave no time

@@ -1,4 +1,6 @@
-ghost use Rattle.std.specs.Prelude.{◌≡◌, false};
+ghost use Rattle.std.specs.Prelude.{◌≡◌, false, IfOk, IfSome, length, map};
+ghost use Rattle.serve_line.specs.Addresses.{port_number};
+ghost use Rattle.serve_line.specs.Browsers.{IsPlaceOf};
 
 use crate::looking::PageSnapshot;
 use crate::moments::milliseconds_of;
@@ -6,7 +8,7 @@ use crate::state::{ENDPOINT_REST_MS, Endpoint, PagePort, Room, SlotState, room_f
 use crate::true_places::TruePlaces;
 use rbc_line::Line;
 use rbc_node::Node;
-use std::alloc::Global;
+use std::alloc::{AllocError, Global};
 use std::net::{Shutdown, SocketAddr, TcpListener, TcpStream};
 use std::sync::atomic::{AtomicBool, AtomicU64, Ordering};
 use std::sync::{Arc, Mutex, Wait};
@@ -53,24 +55,22 @@ pub(crate) struct Seen {
 }
 
 impl PageEndpoint {
-    /// A page endpoint with a first view of the centres. At the call, the centres' journals have all events that the
-    /// centres have taken.
+    /// A page endpoint with a first view of the centres of a line. At the call, the centres' journals have all events
+    /// that the centres have taken.
     pub fn new<R: Wait + Clock>(
         rt: &R,
         alloc: Global,
-        (line, nodes): (&Line, &[Node]),
+        centres: (&Line, &[Node]),
         endpoints: &[Endpoint],
         port: PagePort,
-    ) -> Result<PageEndpoint, Fault<'static>> {
-        let mut places = Vec::new(alloc);
-        for _ in 0..BROWSERS {
-            places.push(Place::new())?;
-        }
-        let mut ports = Vec::new(alloc);
-        for endpoint in endpoints {
-            ports.push(endpoint.address.port())?;
-        }
-        let mut page_snapshot = PageSnapshot::new(alloc, line, ports)?;
+    ) -> Result<PageEndpoint, Fault<'static>>
+        ensures places { IfOk result (λ endpoint. length endpoint.places.items ≡ 8) }
+        ensures port { IfOk result (λ endpoint. (endpoint.listener ≡ port.listening.listener)
+            × (endpoint.address ≡ port.listening.address) × (endpoint.true_places ≡ port.true_places)) }
+    {
+        let (line, nodes) = centres;
+        let places = free_places(alloc)?;
+        let mut page_snapshot = PageSnapshot::new(alloc, line, ports_of(alloc, endpoints)?)?;
         let found = page_snapshot.look(rt, alloc, line, nodes)?;
         page_snapshot.show(found);
         let version = first_version(rt);
@@ -97,7 +97,9 @@ impl PageEndpoint {
 
     /// A place for a new connection. If all are taken, the earliest connection ends. Only the thread of the endpoint
     /// calls it.
-    pub fn place_for<R: Wait>(&self, rt: &R, stream: &Arc<TcpStream, Global>) -> Option<&Place> {
+    pub fn place_for<R: Wait>(&self, rt: &R, stream: &Arc<TcpStream, Global>) -> Option<&Place>
+        ensures { IfSome result (λ place. IsPlaceOf self.now place.now) }
+    {
         let shared = Arc::try_clone(stream).ok()?;
         let place = self.free_place(rt)?;
         let number = self.came.fetch_add(1, Ordering::SeqCst);
@@ -107,7 +109,9 @@ impl PageEndpoint {
         Some(place)
     }
 
-    fn free_place<R: Wait>(&self, rt: &R) -> Option<&Place> {
+    fn free_place<R: Wait>(&self, rt: &R) -> Option<&Place>
+        ensures { IfSome result (λ place. IsPlaceOf self.now place.now) }
+    {
         let mut slots = [Place::FREE; BROWSERS];
         for (slot, place) in slots.iter_mut().zip(self.places.iter()) {
             *slot = place.state();
@@ -126,6 +130,28 @@ impl PageEndpoint {
         }
         None
     }
+}
+
+// The places of a page endpoint that no browser has asked yet.
+fn free_places(alloc: Global) -> Result<Vec<Place>, AllocError>
+    ensures { IfOk result (λ places. length places.items ≡ 8) }
+{
+    let mut places = Vec::new(alloc);
+    for _ in 0..BROWSERS {
+        places.push(Place::new())?;
+    }
+    Ok(places)
+}
+
+// The ports of these endpoints, in their order.
+fn ports_of(alloc: Global, endpoints: &[Endpoint]) -> Result<Vec<u16>, AllocError>
+    ensures { IfOk result (λ ports. ports.items ≡ map (λ e. port_number e.address) endpoints.now) }
+{
+    let mut ports = Vec::new(alloc);
+    for endpoint in endpoints {
+        ports.push(endpoint.address.port())?;
+    }
+    Ok(ports)
 }
 
 impl Place {

@@ -1,7 +1,9 @@
 //! Notes of the missions, of the handovers and of the sections that are given back, read off the centres' logs.
 
 ghost use Rattle.std.specs.List.{flat_map};
-ghost use Rattle.std.specs.Prelude.{[], ◌≡◌, map};
+ghost use Rattle.std.specs.Prelude.{[], ◌≡◌, ◌≤◌, drop, length, map, take};
+ghost use Rattle.rbc_log.specs.Log.{LogValue};
+ghost use Rattle.rbc_node.specs.Node.{centre_of, IsLogOf};
 ghost use Rattle.text_script.specs.rbc_centre.Views.{word_of};
 ghost use Rattle.serve_line.specs.Facts as spec;
 ghost use Rattle.serve_line.specs.Facts.{Adds, fact_list, facts_of};
@@ -56,13 +58,9 @@ struct Facts<'a> {
 impl Facts<'_> {
     // Notes the facts of a log after its first `read` entries, in pieces, and returns the number of entries. No lock is
     // held while notes are sent, and between two pieces the centre may take steps.
-    fn catch_up<R: Wait, N: Notes>(
-        &mut self,
-        rt: &R,
-        notes: &N,
-        node: &Node,
-        read: usize,
-    ) -> usize {
+    fn catch_up<R: Wait, N: Notes>(&mut self, rt: &R, notes: &N, node: &Node, read: usize) -> usize
+        ensures { read ≤ result }
+    {
         let mut read = read;
         for _ in 0..MOST_ENTRIES {
             let count = self.read_piece(rt, node, read);
@@ -76,7 +74,11 @@ impl Facts<'_> {
     }
 
     // Copies the facts of the next piece, and returns the number of its entries.
-    fn read_piece<R: Wait>(&mut self, rt: &R, node: &Node, read: usize) -> usize {
+    fn read_piece<R: Wait>(&mut self, rt: &R, node: &Node, read: usize) -> usize
+        ensures { (log : LogValue) × IsLogOf (centre_of node.now) log
+            × (result ≡ length (take 256 (drop read log.entries)))
+            × Adds (flat_map facts_of (take 256 (drop read log.entries))) self.old self.new }
+    {
         let look = node.look(rt);
         let piece = next_of(look.log().entries(), read);
         self.add_piece(piece);

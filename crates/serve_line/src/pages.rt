@@ -1,3 +1,5 @@
+ghost use Rattle.std.specs.Prelude.{◌≤◌, length};
+
 use crate::browsers::{PageEndpoint, Seen};
 use crate::counting::mark_counts;
 use crate::failures::{is_idle, is_rest};
@@ -230,7 +232,9 @@ fn mark_endpoints<R: Wait>(rt: &R, server: &Server<'_>, now: &mut LineNow) -> bo
 }
 
 // The number of taken slots of an endpoint.
-fn taken_in(endpoint: &Endpoint) -> u64 {
+fn taken_in(endpoint: &Endpoint) -> u64
+    ensures { result ≤ length endpoint.now.slots.items }
+{
     let mut taken = 0u64;
     for slot in &endpoint.slots {
         if slot.is_taken.load(Ordering::SeqCst) {

@@ -1,10 +1,10 @@
 -- The writes of a journal, in order.
-use Rattle.std.proofs.Common.{[], ◌++◌, ◌+◌, ◌<◌, ◌^◌, ◌∙◌, ◌∷◌, ◌≡◌, ◌≤◌, ap, arith, Bool, drop, false, length, List}
+use Rattle.std.proofs.Common.{[], ◌++◌, ◌<◌, ◌^◌, ◌∙◌, ◌∷◌, ◌≡◌, ◌≤◌, ap, arith, Bool, drop, false, length, List}
 use Rattle.std.proofs.Common.{None, Option, refl, Some, subst, sym, take, true, unwrap_or, ℕ}
 use Rattle.std.proofs.lemmas.List.{length-drop, length-take}
 use Rattle.rbc_log.specs.declared.entry.Entry as log
 use Rattle.rbc_spec.specs.Line.{Line}
-use Rattle.serve_line.specs.Journaling.Keeping.{AreWrites, HasKept, IsTurn, TriesWrite, written_after, Writes}
+use Rattle.serve_line.specs.Journaling.Keeping.{AreWrites, HasKept, IsTurn, written_after, Writes}
 use Rattle.serve_line.specs.Journaling.Noting.{AreNotesOf}
 use Rattle.text_journal.specs.declared.entry.Entry as journal
 

@@ -1,4 +1,6 @@
-ghost use Rattle.std.specs.Prelude.{◌≡◌, option_map, IfOk};
+ghost use Rattle.std.specs.Option.{option_map_or};
+ghost use Rattle.std.specs.Prelude.{◌≡◌, option_map, IfOk, IfSome};
+ghost use Rattle.serve_line.specs.Commits.{IsAnswer, IsAnswerTo, IsShowAnswer, IsShowText, journal_fault};
 ghost use Rattle.serve_control.specs.Answers.{IsCommitPrint};
 ghost use Rattle.serve_line.specs.Journaling.Waiting.{awaited};
 
@@ -35,7 +37,10 @@ pub(crate) fn answer<R: Wait>(
     served: Served<'_, '_>,
     shares: &mut [Share],
     command: Command,
-) -> Result<Opened<Vec<u8>>, Fault<'static>> {
+) -> Result<Opened<Vec<u8>>, Fault<'static>>
+    ensures { IfOk result (λ opened. IsAnswerTo served.entry.server.now.line.now
+        served.entry.server.now.options.shows_life command opened.answer.items) }
+{
     match command {
         Command::Nothing | Command::Stop | Command::StopNow => Ok(Opened::nothing(
             served.server.alloc,
@@ -53,7 +58,9 @@ pub(crate) fn answer<R: Wait>(
 }
 
 /// A text that shows no event.
-pub(crate) fn fixed(alloc: Global, text: &'static str) -> Result<Opened<Vec<u8>>, AllocError> {
+pub(crate) fn fixed(alloc: Global, text: &'static str) -> Result<Opened<Vec<u8>>, AllocError>
+    ensures { IfOk result (λ opened. opened.answer.items ≡ text.entry.now) }
+{
     let mut opened = Opened::nothing(alloc);
     opened.add_fixed(text)?;
     Ok(opened)
@@ -64,27 +71,29 @@ fn show_written<R: Wait>(
     rt: &R,
     server: &Server<'_>,
     slot: &Slot,
-) -> Result<Opened<Vec<u8>>, Fault<'static>> {
-    let mut text = Vec::new(server.alloc);
-    show(
-        rt,
-        server.alloc,
-        server.line,
-        server.nodes,
-        server.mentions,
-        &mut text,
-    )?;
-    if server.options.shows_life {
-        write_life(rt, server.line, server.nodes, &mut text)?;
-    }
+) -> Result<Opened<Vec<u8>>, Fault<'static>>
+    ensures { IfOk result (λ opened. IsShowAnswer server.now.line.now server.now.options.shows_life
+        opened.answer.items) }
+{
+    let text = show_text(rt, server)?;
     let is_waiting = slot.is_reserve && server.sinks.iter().any(|sink| sink.queue.is_long());
     if is_waiting {
         return Ok(fixed(server.alloc, JOURNAL_FAULT)?);
     }
-    match server.open_kept(rt, text) {
-        Some(opened) => Ok(opened),
-        None => Ok(fixed(server.alloc, JOURNAL_FAULT)?),
+    Ok(kept_or_fault(server.alloc, server.open_kept(rt, text))?)
+}
+
+// The line as the centres show it, and the usage of the centres if the options ask for it.
+fn show_text<R: Wait>(rt: &R, server: &Server<'_>) -> Result<Vec<u8>, Fault<'static>>
+    ensures { IfOk result (λ text. IsShowText server.now.line.now server.now.options.shows_life text.items) }
+{
+    let (alloc, line, nodes) = (server.alloc, server.line, server.nodes);
+    let mut text = Vec::new(alloc);
+    show(rt, alloc, line, nodes, server.mentions, &mut text)?;
+    if server.options.shows_life {
+        write_life(rt, line, nodes, &mut text)?;
     }
+    Ok(text)
 }
 
 // Commits an event of the interlocking at a centre.
@@ -95,7 +104,10 @@ fn commit<R: Wait>(
     centre: u8,
     event: Event,
     printed: &WorldEvent,
-) -> Result<Opened<Vec<u8>>, Fault<'static>> {
+) -> Result<Opened<Vec<u8>>, Fault<'static>>
+    ensures { IfOk result
+        (λ opened. IsAnswer served.entry.server.now.line.now centre printed.now opened.answer.items) }
+{
     let Served { server, slot } = served;
     let (Some(committer), Some(share)) = (server.committer(centre), shares.get_mut(centre as usize))
     else {
@@ -108,13 +120,32 @@ fn commit<R: Wait>(
     }
     let answer = committer.commit(rt, share, event);
     let sealed = sealed_answer(server.alloc, server.line, sink, centre, printed, &answer)?;
-    let opened = match sink.reaches(rt, sealed.stamp()) {
-        Some(kept) => sealed.open(&kept),
-        None => None,
-    };
+    Ok(kept_or_fault(server.alloc, opened_by(rt, sink, sealed))?)
+}
+
+// Opens an answer once the journal keeps its event. `None` if the journal was given up first.
+fn opened_by<R: Wait>(
+    rt: &R,
+    sink: &CentreSink<'_>,
+    sealed: Sealed<Vec<u8>>,
+) -> Option<Opened<Vec<u8>>>
+    ensures { IfSome result (λ opened. opened.answer ≡ sealed.answer) }
+{
+    let kept = sink.reaches(rt, sealed.stamp())?;
+    sealed.open(&kept)
+}
+
+// This answer; without one, that a journal can't be written.
+fn kept_or_fault(
+    alloc: Global,
+    opened: Option<Opened<Vec<u8>>>,
+) -> Result<Opened<Vec<u8>>, AllocError>
+    ensures { IfOk result (λ answer. answer.answer.items
+        ≡ option_map_or (λ kept. kept.answer.items) opened journal_fault) }
+{
     match opened {
         Some(opened) => Ok(opened),
-        None => Ok(fixed(server.alloc, JOURNAL_FAULT)?),
+        None => fixed(alloc, JOURNAL_FAULT),
     }
 }
 

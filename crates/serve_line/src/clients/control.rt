@@ -1,6 +1,7 @@
 ghost use Rattle.std.specs.Prelude.{◌≡◌};
 ghost use Rattle.serve_notes.specs.declared.about.PeerConnection.TheVariants.{Control};
-ghost use Rattle.serve_line.specs.Answering.{next_after};
+ghost use Rattle.serve_line.specs.Answering.{IsNextAfter, next_after};
+ghost use Rattle.serve_line.specs.declared.clients.sending.Sent.{Sent as SentPart};
 
 use crate::clients::answer::{SCRIPT_FAULT, Served, answer, fixed};
 use crate::clients::limits::{CONTROL_REST_MS, RESERVE_RESTS};
@@ -124,7 +125,9 @@ fn answer_row<R: Wait + Clock, N: Notes>(
     shares: &mut [Share],
     row: &[u8],
     stream: &PeerStream,
-) -> Next {
+) -> Next
+    ensures { IsNextAfter served.entry.server.now.line.now row.now result }
+{
     let Served { server, slot } = served;
     let about = about_slot(Kind::Line, slot.number);
     let command = match meaning_of(server.alloc, server.line, row) {
@@ -151,7 +154,9 @@ fn answer_row<R: Wait + Clock, N: Notes>(
 }
 
 // Answers a line that has no valid form.
-fn refuse<R: Wait + Clock>(rt: &R, server: &Server<'_>, stream: &PeerStream) -> Next {
+fn refuse<R: Wait + Clock>(rt: &R, server: &Server<'_>, stream: &PeerStream) -> Next
+    ensures { (sent : SentPart) × (result ≡ next_after sent) }
+{
     match fixed(server.alloc, SCRIPT_FAULT) {
         Ok(text) => answered(send(rt, stream, &text)),
         Err(_) => Next::End,

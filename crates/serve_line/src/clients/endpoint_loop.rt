@@ -1,4 +1,4 @@
-ghost use Rattle.std.specs.Prelude.{◌≡◌, IfSome, true};
+ghost use Rattle.std.specs.Prelude.{◌≡◌, IfOk, IfSome, map, true};
 ghost use Rattle.serve_line.specs.Slots.{IsSlotOf};
 
 use crate::clients::connection_refusal::ConnectionRefusal;
@@ -139,7 +139,9 @@ fn next_peer<'a, R: Wait, N: Notes>(
     notes: &N,
     endpoint: &'a Endpoint,
     entrance: &mut Entrance,
-) -> Option<(PeerStream, &'a Slot)> {
+) -> Option<(PeerStream, &'a Slot)>
+    ensures { IfSome result (λ next. IsSlotOf endpoint.now next.1.now) }
+{
     let stream = match accept(rt, server, endpoint, entrance) {
         Ok(stream) => stream,
         Err(error) => {
@@ -170,7 +172,9 @@ fn seat<'a, R: Wait>(
     server: &Server<'_>,
     endpoint: &'a Endpoint,
     stream: &PeerStream,
-) -> Result<&'a Slot, ConnectionRefusal> {
+) -> Result<&'a Slot, ConnectionRefusal>
+    ensures { IfOk result (λ slot. IsSlotOf endpoint.now slot.now) }
+{
     let shared = stream.try_clone()?;
     if let Peer::Trains(centre) = endpoint.peer {
         if server.is_stuck(rt, centre) {
@@ -193,7 +197,9 @@ fn slot_for<'a, R: Wait>(
     rt: &R,
     server: &Server<'_>,
     endpoint: &'a Endpoint,
-) -> Result<Option<&'a Slot>, AllocError> {
+) -> Result<Option<&'a Slot>, AllocError>
+    ensures { IfOk result (λ found. IfSome found (λ slot. IsSlotOf endpoint.now slot.now)) }
+{
     let each = match endpoint.peer {
         Peer::Trains(_) => LEAVING_RESTS,
         Peer::Interlocking => NEXT_RESTS,
@@ -216,7 +222,10 @@ fn states_of<R: Wait>(
     rt: &R,
     server: &Server<'_>,
     endpoint: &Endpoint,
-) -> Result<Vec<SlotState>, AllocError> {
+) -> Result<Vec<SlotState>, AllocError>
+    ensures { IfOk result (λ states. map (λ state. state.is_reserve) states.items
+        ≡ map (λ slot. slot.is_reserve) endpoint.now.slots.items) }
+{
     let mut states = Vec::with_capacity(server.alloc, endpoint.slots.len())?;
     for slot in &endpoint.slots {
         let is_serving = server.is_serving(rt, endpoint.peer, slot.number);

@@ -1,4 +1,5 @@
-ghost use Rattle.std.specs.Prelude.{◌≡◌, None};
+ghost use Rattle.std.specs.Prelude.{◌≡◌, IfOk, None};
+ghost use Rattle.serve_line.specs.Addresses.{is_tcp, IsSameSource, listens_at_port};
 
 use crate::clients::limits::DEAF_REST_MS;
 use crate::failures::is_idle;
@@ -32,7 +33,10 @@ impl Entrance {
     }
 
     /// The next connection. An error for which `is_idle` holds means that none came for a while.
-    pub fn accept(&mut self, alloc: Global) -> io::Result<PeerStream> {
+    pub fn accept(&mut self, alloc: Global) -> io::Result<PeerStream>
+        ensures stream { IfOk result (λ stream. is_tcp stream ≡ listens_at_port self.old.listener) }
+        ensures source { IsSameSource self.old self.new }
+    {
         match self.listener.accept(alloc) {
             Ok(stream) => Ok(stream),
             Err(error) if is_idle(error.kind()) => {
@@ -48,7 +52,9 @@ impl Entrance {
     }
 
     // Opens the reserve file again, if that is possible.
-    fn refill(&mut self) {
+    fn refill(&mut self)
+        ensures { IsSameSource self.old self.new }
+    {
         if self.has_reserve && self.reserve.is_none() {
             self.reserve = self.listener.try_clone().ok();
         }
@@ -62,7 +68,10 @@ pub(crate) fn accept<R: Wait>(
     server: &Server<'_>,
     endpoint: &Endpoint,
     entrance: &mut Entrance,
-) -> io::Result<PeerStream> {
+) -> io::Result<PeerStream>
+    ensures stream { IfOk result (λ stream. is_tcp stream ≡ listens_at_port entrance.old.listener) }
+    ensures source { IsSameSource entrance.old entrance.new }
+{
     match endpoint.peer {
         Peer::Trains(_) if server.state.is_short_of_files() => {
             rest(rt, endpoint);

@@ -1,6 +1,6 @@
 ghost use Rattle.std.specs.List.{list_any};
-ghost use Rattle.std.specs.Prelude.{◌≡◌, ℕ, [], false, IfOk, length, OnErr, OnOk, option_map, replicate, slice_get};
-ghost use Rattle.std.specs.Prelude.{slice_set, string_bytes};
+ghost use Rattle.std.specs.Prelude.{◌≡◌, ℕ, [], false, IfOk, length, OnErr, OnOk, replicate, slice_get, slice_set};
+ghost use Rattle.std.specs.Prelude.{◌≤◌, map, option_map, string_bytes};
 ghost use Rattle.rbc_msgs.specs.StepMessage.{step_body};
 ghost use Rattle.text_script.specs.rbc_centre.States.{number_of};
 ghost use Rattle.text_script.specs.rbc_centre.Views.{event_of};
@@ -131,16 +131,30 @@ impl News {
 
     /// Puts the copied events into words, and returns the last events, the newest first. Those that were put into words
     /// now have no time yet. No lock is held meanwhile.
-    pub fn tell(&mut self, alloc: Global, line: &Line) -> Result<Vec<EventNow>, Fault<'static>> {
+    pub fn tell(&mut self, alloc: Global, line: &Line) -> Result<Vec<EventNow>, Fault<'static>>
+        ensures words { IfOk result (λ last. map (λ e. string_bytes e.words) last.items
+            ≡ map (λ t. string_bytes t.words) self.new.told.items) }
+        ensures count { OnOk result (length self.new.told.items ≤ 24) }
+        ensures fresh { OnOk result (self.new.fresh.items ≡ []) }
+    {
         self.fresh.sort_by_key(|fresh| fresh.entry.outcome.stamp)?;
         let mut newest = self.newest(alloc, line)?;
         newest.append(&mut self.told)?;
         newest.truncate(TOLD);
         self.told = newest;
         self.fresh.clear();
+        Ok(self.events(alloc)?)
+    }
+
+    // The last events as the page shows them.
+    fn events(&self, alloc: Global) -> Result<Vec<EventNow>, AllocError>
+        ensures { IfOk result (λ last. map (λ e. string_bytes e.words) last.items
+            ≡ map (λ t. string_bytes t.words) self.now.told.items) }
+    {
         let mut last = Vec::new(alloc);
         for told in self.told.iter() {
-            last.push(told.event(alloc)?)?;
+            let event = told.event(alloc)?;
+            last.push(event)?;
         }
         Ok(last)
     }
@@ -161,7 +175,11 @@ impl News {
         rt: &R,
         journals: &[Journal],
         last: &mut [EventNow],
-    ) -> bool {
+    ) -> bool
+        ensures times { (i : ℕ) → option_map (λ e. e.time_ms) (slice_get last.new i)
+            ≡ spec.time_at self.new.told.items i (slice_get last.old i) }
+        ensures same { result ≡ false → last.new ≡ last.old }
+    {
         for told in self.told.iter_mut() {
             told.find_time(rt, journals);
         }
@@ -220,7 +238,9 @@ impl Told {
     }
 
     // Reads the time of its write, if it is not known yet.
-    fn find_time<R: Wait>(&mut self, rt: &R, journals: &[Journal]) {
+    fn find_time<R: Wait>(&mut self, rt: &R, journals: &[Journal])
+        ensures { spec.KeepsEvent self.old self.new }
+    {
         if self.time_ms.is_some() {
             return;
         }

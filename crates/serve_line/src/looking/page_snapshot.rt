@@ -1,4 +1,6 @@
-ghost use Rattle.std.specs.Prelude.{◌≡◌, [], IfOk, length, map, replicate};
+ghost use Rattle.std.specs.Prelude.{◌<◌, ◌==◌, ◌≡◌, ◌≢◌, ℕ, [], IfOk, IfSome, length, map, not, replicate, slice_get, slice_set};
+ghost use Rattle.serve_line.specs.Marks.{TakesMarks, with_silent};
+ghost use Rattle.serve_line.specs.Snapshots.{IsViewIn};
 ghost use Rattle.serve_line.specs.Directions.{directions_of};
 ghost use Rattle.serve_line.specs.Pages.{unused_link};
 
@@ -77,14 +79,19 @@ impl PageSnapshot {
             self.news.read_on(alloc, log)?;
         }
         self.sent.add_handovers(&mut now);
-        see_sections(line, &snapshot, &mut now);
+        see_sections(line, &snapshot, &mut now.sections);
         now.last = self.news.tell(alloc, line)?;
         Ok(Found { now, silent })
     }
 
     /// Shows the result of a look, and returns whether its events are others. The marks of the endpoints and the true
     /// places of trains stay.
-    pub fn show(&mut self, found: Found) -> bool {
+    pub fn show(&mut self, found: Found) -> bool
+        ensures changed { result ≡ not (found.now.events == self.old.now.events) }
+        ensures now { TakesMarks self.old.now found.now self.new.now }
+        ensures silent { (c : ℕ) → slice_get self.new.counts.centres.items c
+            ≡ with_silent found.silent.items c (slice_get self.old.counts.centres.items c) }
+    {
         let Found { now, silent } = found;
         let has_changed = now.events != self.now.events;
         let mut before = std::mem::replace(&mut self.now, now);
@@ -101,9 +108,30 @@ impl PageSnapshot {
 }
 
 // Shows each section as the centres show it.
-fn see_sections(line: &Line, snapshot: &Snapshot, now: &mut LineNow) {
-    for (place, s) in now.sections.iter_mut().zip(0..line.section_count()) {
-        *place = snapshot.section(line, s);
+fn see_sections(line: &Line, snapshot: &Snapshot, sections: &mut [SectionView])
+    ensures { (s : ℕ) → s < length line.now.sections
+        → IfSome (slice_get sections.new s) (IsViewIn line.now snapshot.now s) }
+{
+    for s in 0..line.section_count() {
+        see_section(line, snapshot, sections, s);
+    }
+}
+
+// Shows a section as the centres show it.
+fn see_section(line: &Line, snapshot: &Snapshot, sections: &mut [SectionView], s: u16)
+    ensures section { IfSome (slice_get sections.new s) (IsViewIn line.now snapshot.now s) }
+    ensures others { (k : ℕ) → k ≢ s → slice_get sections.new k ≡ slice_get sections.old k }
+{
+    let view = snapshot.section(line, s);
+    put_section(sections, s, view);
+}
+
+fn put_section(sections: &mut [SectionView], s: u16, view: SectionView)
+    ensures { sections.new ≡ slice_set sections.old s view }
+{
+    let at = s as usize;
+    if at < sections.len() {
+        sections[at] = view;
     }
 }
 

@@ -1,6 +1,8 @@
 //! The view of one centre.
 
-ghost use Rattle.std.specs.Prelude.{◌≡◌, map};
+ghost use Rattle.std.specs.Prelude.{◌≡◌, is_some, map, None, slice_set, Some, true};
+ghost use Rattle.text_page.specs.declared.view.MissionNow.{MissionNow};
+ghost use Rattle.serve_line.specs.Lists.{Continues};
 ghost use Rattle.serve_line.specs.Pages.{lives_with, with_frames};
 
 use crate::stamps::last_stamp;
@@ -8,16 +10,15 @@ use crate::status::end_of;
 use rbc_line::Line;
 use rbc_log::CentreLog;
 use std::alloc::AllocError;
-use text_page::{CentreNow, LineNow, LinkNow};
+use text_page::{CentreNow, LineNow, LinkNow, MissionNow, SessionNow};
 use text_replay::{mission_now, session_now};
 use text_script::{Centre, TrainPage};
 
 /// Adds a centre's trains, its links, and its usage.
-pub(crate) fn see_centre(
-    line: &Line,
-    log: &CentreLog,
-    now: &mut LineNow,
-) -> Result<(), AllocError> {
+pub(crate) fn see_centre(line: &Line, log: &CentreLog, now: &mut LineNow) -> Result<(), AllocError>
+    ensures centres { now.new.centres.items ≡ lives_with log.now now.old.centres.items }
+    ensures links { now.new.links.items ≡ map (with_frames log.now.core) now.old.links.items }
+{
     let centre = log.core();
     now.events = now.events.saturating_add(log.entries().len() as u64);
     see_life(log, &mut now.centres);
@@ -25,8 +26,14 @@ pub(crate) fn see_centre(
     for i in 0..line.train_count() {
         if let Some(train) = line.train(i) {
             let page = centre.train(train.nid_engine);
-            see_mission(centre.number(), i, train.nid_engine, &page, now);
-            see_session(centre.number(), train.nid_engine, &page, now)?;
+            see_mission(
+                centre.number(),
+                i,
+                train.nid_engine,
+                &page,
+                &mut now.missions,
+            );
+            see_session(centre.number(), train.nid_engine, &page, &mut now.sessions)?;
         }
     }
     Ok(())
@@ -71,21 +78,44 @@ fn with_frames(centre: &Centre, link: LinkNow) -> LinkNow
 }
 
 // Adds a train that is supervised here. If two centres show it, the later look counts.
-fn see_mission(centre: u8, i: u8, nid_engine: u32, page: &TrainPage, now: &mut LineNow) {
-    let (Some(facts), Some(place)) = (page.mission, now.missions.get_mut(i as usize)) else {
-        return;
-    };
-    *place = Some(mission_now(nid_engine, Some(centre), &facts, page.hand, page.pool));
+fn see_mission(
+    centre: u8,
+    i: u8,
+    nid_engine: u32,
+    page: &TrainPage,
+    missions: &mut [Option<MissionNow>],
+)
+    ensures none { page.now.mission ≡ None → missions.new ≡ missions.old }
+    ensures some { is_some page.now.mission ≡ true → (m : MissionNow) × (m.nid_engine ≡ nid_engine)
+        × (m.supervisor ≡ Some centre) × (m.hand ≡ page.now.hand)
+        × (missions.new ≡ slice_set missions.old i (Some m)) }
+{
+    if let Some(facts) = page.mission {
+        let mission = mission_now(nid_engine, Some(centre), &facts, page.hand, page.pool);
+        put_mission(missions, i, mission);
+    }
 }
 
+fn put_mission(missions: &mut [Option<MissionNow>], i: u8, mission: MissionNow)
+    ensures { missions.new ≡ slice_set missions.old i (Some mission) }
+{
+    let at = i as usize;
+    if at < missions.len() {
+        missions[at] = Some(mission);
+    }
+}
+
+// Adds the session of a train with the centre, if there is one.
 fn see_session(
     centre: u8,
     nid_engine: u32,
     page: &TrainPage,
-    now: &mut LineNow,
-) -> Result<(), AllocError> {
+    sessions: &mut Vec<SessionNow>,
+) -> Result<(), AllocError>
+    ensures { Continues sessions.old.items sessions.new.items }
+{
     if let Some(session) = session_now(nid_engine, centre, page.phase, page.waiting.is_some()) {
-        now.sessions.push(session)?;
+        sessions.push(session)?;
     }
     Ok(())
 }

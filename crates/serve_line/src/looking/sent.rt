@@ -1,3 +1,5 @@
+ghost use Rattle.std.specs.Prelude.{◌≡◌, IfOk, length, map, replicate};
+
 use rbc_line::Line;
 use std::alloc::{AllocError, Global};
 use text_page::LineNow;
@@ -17,15 +19,13 @@ pub(crate) struct Sent {
 
 impl Sent {
     /// No frame was read.
-    pub fn new(alloc: Global, line: &Line) -> Result<Sent, AllocError> {
-        let centres = line.centre_count() as usize;
-        let mut read = Vec::new(alloc);
-        for _ in 0..centres {
-            read.push(vec![in alloc; 0u32; centres]?)?;
-        }
+    pub fn new(alloc: Global, line: &Line) -> Result<Sent, AllocError>
+        ensures { IfOk result (λ sent. map (λ row. row.items) sent.read.items
+            ≡ replicate (length line.now.centres) (replicate (length line.now.centres) 0)) }
+    {
         Ok(Sent {
             handovers: Handovers::new(alloc, line)?,
-            read,
+            read: no_counts(alloc, line.centre_count() as usize)?,
         })
     }
 
@@ -64,4 +64,17 @@ impl Sent {
             }
         }
     }
+}
+
+// Of each pair of centres the count 0.
+fn no_counts(alloc: Global, centres: usize) -> Result<Vec<Vec<u32>>, AllocError>
+    ensures { IfOk result (λ counts. map (λ row. row.items) counts.items
+        ≡ replicate centres (replicate centres 0)) }
+{
+    let mut counts = Vec::new(alloc);
+    for _ in 0..centres {
+        let row = vec![in alloc; 0u32; centres]?;
+        counts.push(row)?;
+    }
+    Ok(counts)
 }

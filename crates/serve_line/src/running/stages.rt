@@ -1,7 +1,10 @@
 //! The stages of a running line: its nodes go on from the journals, its threads run, and its logs are printed.
 
-ghost use Rattle.std.specs.Prelude.{IfOk, map};
+ghost use Rattle.std.specs.Prelude.{◌≡◌, IfOk, List, map, OnOk, true, vec_len, ℕ};
+ghost use Rattle.rbc_node.specs.Receipts.{ShareValue};
 ghost use Rattle.serve_line.specs.Journaling.Resuming.{AreResumed, first_share};
+ghost use Rattle.serve_line.specs.Lists.{Continues};
+ghost use Rattle.serve_line.specs.Prints.{AddsGathered};
 
 use crate::browsers::PageEndpoint;
 use crate::journaling::{Journal, WriteTimes, times_of};
@@ -75,21 +78,28 @@ impl<R: Threads + Wait + Sync + Clock, N: Notes + Sync> Setting<'_, R, N> {
     /// Runs the centres from their start to the print of their events.
     pub fn serve<F: DurableFile + Drop + Send, O: Write>(
         &self,
-        record: Record<F>,
+        journals: Record<F>,
         endpoints: Endpoints,
         out: &mut O,
-    ) -> Result<(), ServeFault> {
-        let begun = self.begin(record)?;
+    ) -> Result<(), ServeFault>
+        ensures { OnOk result (self.now.options.prints_events ≡ true
+            → (count : ℕ) × (shares : List ShareValue) × AddsGathered count shares self.now.line.now
+            (O.contents out.old) (O.contents out.new)) }
+    {
+        let begun = self.begin(journals)?;
         let ended = self.run(begun, endpoints)?;
         self.print(ended, out)
     }
 
     // The nodes, after the events of the journals.
-    fn begin<F: DurableFile + Drop + Send>(&self, record: Record<F>) -> Result<Begun<F>, ServeFault>
-        ensures { IfOk result (λ begun. AreResumed begun.nodes.items record.entries.items
+    fn begin<F: DurableFile + Drop + Send>(
+        &self,
+        journals: Record<F>,
+    ) -> Result<Begun<F>, ServeFault>
+        ensures { IfOk result (λ begun. AreResumed begun.nodes.items journals.entries.items
             (map first_share begun.nodes.items) begun.receipts.items) }
     {
-        let Record { files, entries } = record;
+        let Record { files, entries } = journals;
         let nodes = nodes_of(self.alloc, self.line)?;
         let times = times_of(self.alloc, self.line.centre_count(), &entries)?;
         let receipts = resume_noted(self.rt, self.alloc, self.line, &nodes, entries, self.notes)?;
@@ -106,7 +116,10 @@ impl<R: Threads + Wait + Sync + Clock, N: Notes + Sync> Setting<'_, R, N> {
         &self,
         begun: Begun<F>,
         endpoints: Endpoints,
-    ) -> Result<Ended, ServeFault> {
+    ) -> Result<Ended, ServeFault>
+        ensures nodes { IfOk result (λ ended. ended.nodes ≡ begun.nodes) }
+        ensures receipts { IfOk result (λ ended. Continues begun.receipts.items ended.receipts.items) }
+    {
         let Begun {
             nodes,
             receipts,
@@ -207,7 +220,12 @@ impl<R: Threads + Wait + Sync + Clock, N: Notes + Sync> Setting<'_, R, N> {
 
     // Gathers the logs, and prints their events, unless the options forbid it. If a journal lacks an event, that is
     // the fault.
-    fn print<O: Write>(&self, ended: Ended, out: &mut O) -> Result<(), ServeFault> {
+    fn print<O: Write>(&self, ended: Ended, out: &mut O) -> Result<(), ServeFault>
+        ensures whole { OnOk result (ended.is_whole ≡ true) }
+        ensures print { OnOk result (self.now.options.prints_events ≡ true
+            → AddsGathered (vec_len ended.nodes) ended.receipts.items self.now.line.now
+            (O.contents out.old) (O.contents out.new)) }
+    {
         let Ended {
             nodes,
             receipts,

@@ -171,23 +171,27 @@ pub fn sinks_of<'a>(
     endpoints: &'a [Endpoint],
     journals: &'a [Journal],
     options: ServeOptions,
-) -> Result<Vec<CentreSink<'a>>, AllocError> {
+) -> Result<Vec<CentreSink<'a>>, AllocError>
+    ensures centres { IfOk result (λ sinks. map (λ sink. sink.centre) sinks.items
+        ≡ map (λ c. c) (range_with_len 0 (length sinks.items))) }
+    ensures journals { IfOk result (λ sinks. map journal_in sinks.items
+        ≡ map (slice_get journals.entry.now) (range_with_len 0 (length sinks.items))) }
+    ensures names { IfOk result (λ sinks. map (λ sink. sink.name.now) sinks.items
+        ≡ map (name_at line.entry.now) (range_with_len 0 (length sinks.items))) }
+{
+    let control = if options.is_telling {
+        endpoints.last()
+    } else {
+        None
+    };
     let parts = SinkParts {
         alloc,
         line,
-        control: if options.is_telling {
-            endpoints.last()
-        } else {
-            None
-        },
+        control,
         journals,
         rate: options.rate,
     };
-    let mut sinks = Vec::new(alloc);
-    for (connections, centre) in connections.iter().zip(0..line.centre_count()) {
-        sinks.push(parts.sink(centre, connections)?)?;
-    }
-    Ok(sinks)
+    parts.sinks(connections)
 }
 
 /// The common parts of the sinks.
@@ -201,6 +205,29 @@ struct SinkParts<'a> {
 }
 
 impl<'a> SinkParts<'a> {
+    // The sinks of the centres with these connections.
+    fn sinks(
+        &self,
+        connections: &'a [TrainConnections<'a>],
+    ) -> Result<Vec<CentreSink<'a>>, AllocError>
+        ensures centres { IfOk result (λ sinks. map (λ sink. sink.centre) sinks.items
+            ≡ map (λ c. c) (range_with_len 0 (length sinks.items))) }
+        ensures journals { IfOk result (λ sinks. map journal_in sinks.items
+            ≡ map (slice_get self.now.journals.now) (range_with_len 0 (length sinks.items))) }
+        ensures names { IfOk result (λ sinks. map (λ sink. sink.name.now) sinks.items
+            ≡ map (name_at self.now.line.now) (range_with_len 0 (length sinks.items))) }
+    {
+        let mut sinks = Vec::new(self.alloc);
+        for centre in 0..self.line.centre_count() {
+            let Some(connections) = connections.get(centre as usize) else {
+                break;
+            };
+            let sink = self.sink(centre, connections)?;
+            sinks.push(sink)?;
+        }
+        Ok(sinks)
+    }
+
     // The sink of a centre with these connections.
     fn sink(
         &self,

@@ -1,8 +1,9 @@
 //! The endpoints with their slots, as they are built.
 
 ghost use Rattle.std.specs.List.{range_with_len};
-ghost use Rattle.std.specs.Prelude.{◌≡◌, ◌+◌, IfOk, false, length, map};
-ghost use Rattle.serve_line.specs.Building.{control_places, peer_at, place_of, slot_places};
+ghost use Rattle.std.specs.Option.{option_map_or};
+ghost use Rattle.std.specs.Prelude.{[], ◌++◌, ◌∷◌, ◌≡◌, ◌+◌, IfOk, false, length, map, vec_len};
+ghost use Rattle.serve_line.specs.Building.{control_places, control_seats, peer_at, place_of, seats_at, seats_of, slot_places};
 
 use crate::state::endpoints::{Listening, ListeningAt};
 use crate::state::limits::{CONTROLS, SPARE};
@@ -32,21 +33,53 @@ pub fn endpoints_of(
     nodes: &[Node],
     listening: Vec<Listening>,
     socket: Option<ListeningAt>,
-) -> Result<Vec<Endpoint>, AllocError> {
-    let mut endpoints = Vec::new(alloc);
-    for (number, listening) in listening.into_iter().enumerate() {
-        endpoints.push(endpoint_of(alloc, line, nodes, number, listening)?)?;
-    }
-    if let Some(ListeningAt { listener, path }) = socket {
-        endpoints.push(Endpoint {
-            listener: Mutex::new(Some(Listener::Unix(listener))),
-            address: Address::Path(path),
-            peer: Peer::Interlocking,
-            slots: control_slots(alloc, nodes)?,
-            waker: Parker::new(),
-        })?;
+) -> Result<Vec<Endpoint>, AllocError>
+    ensures { IfOk result (λ endpoints. map seats_of endpoints.items ≡ map (seats_at line.now nodes.now)
+        (range_with_len 0 (vec_len listening)) ++ option_map_or (λ socket. control_seats ∷ []) socket []) }
+{
+    let mut endpoints = ports_of(alloc, line, nodes, listening)?;
+    if let Some(socket) = socket {
+        let endpoint = control_at(alloc, nodes, socket)?;
+        endpoints.push(endpoint)?;
     }
     Ok(endpoints)
+}
+
+// The endpoints of these ports, in their order.
+fn ports_of(
+    alloc: Global,
+    line: &Line,
+    nodes: &[Node],
+    listening: Vec<Listening>,
+) -> Result<Vec<Endpoint>, AllocError>
+    ensures { IfOk result (λ endpoints. map seats_of endpoints.items
+        ≡ map (seats_at line.now nodes.now) (range_with_len 0 (vec_len listening))) }
+{
+    let mut left = listening;
+    left.reverse();
+    let mut endpoints = Vec::new(alloc);
+    for number in 0..left.len() {
+        let Some(listening) = left.pop() else {
+            break;
+        };
+        let endpoint = endpoint_of(alloc, line, nodes, number, listening)?;
+        endpoints.push(endpoint)?;
+    }
+    Ok(endpoints)
+}
+
+// The control endpoint at a Unix socket.
+fn control_at(alloc: Global, nodes: &[Node], socket: ListeningAt) -> Result<Endpoint, AllocError>
+    ensures { IfOk result (λ endpoint. seats_of endpoint ≡ control_seats) }
+{
+    let ListeningAt { listener, path } = socket;
+    Ok(Endpoint {
+        listener: Mutex::new(Some(Listener::Unix(listener))),
+        address: Address::Path(path),
+        peer: Peer::Interlocking,
+        slots: control_slots(alloc, nodes)?,
+        waker: Parker::new(),
+    })
 }
 
 // The endpoint of this number: a centre's, or after those the control endpoint.

@@ -1,4 +1,4 @@
-ghost use Rattle.std.specs.Prelude.{◌≡◌, ◌++◌, ◌<◌, ◌^◌, ◌∷◌, [], IfOk, option_map, slice_get};
+ghost use Rattle.std.specs.Prelude.{◌≡◌, ◌++◌, ◌+◌, ◌<◌, ◌^◌, ◌∷◌, [], IfOk, length, option_map, slice_get};
 ghost use Rattle.serve_line.specs.Listening.{page_with, socket_path};
 
 use crate::state::control_socket::listen_at_path;
@@ -61,7 +61,10 @@ impl Endpoints {
         line: &Line,
         first: u16,
         notes: &N,
-    ) -> Result<Endpoints, ServeFault> {
+    ) -> Result<Endpoints, ServeFault>
+        ensures ports { IfOk result (λ all. length all.ports.items ≡ length line.now.centres + 1) }
+        ensures others { IfOk result (λ all. (all.socket ≡ None) × (all.page ≡ None)) }
+    {
         let host = SocketAddr::new(this_host(), first);
         let endpoints = Endpoints::open_centres(rt, alloc, line, host, notes)?;
         endpoints.and_control(rt, line, first, notes)
@@ -75,7 +78,10 @@ impl Endpoints {
         line: &Line,
         first: SocketAddr,
         notes: &N,
-    ) -> Result<Endpoints, ServeFault> {
+    ) -> Result<Endpoints, ServeFault>
+        ensures ports { IfOk result (λ all. length all.ports.items ≡ length line.now.centres) }
+        ensures others { IfOk result (λ all. (all.socket ≡ None) × (all.page ≡ None)) }
+    {
         let mut ports = Vec::new(alloc);
         for centre in 0..line.centre_count() {
             let name = name_of(line, centre);

@@ -1,7 +1,8 @@
-ghost use Rattle.std.specs.Prelude.{◌≡◌, IfSome, option_map, slice_get};
+ghost use Rattle.std.specs.Prelude.{◌≡◌, IfSome, option_map, slice_get, true};
 ghost use Rattle.rbc_log.specs.Log.{LogValue};
 ghost use Rattle.rbc_node.specs.Node.{centre_of, IsLogOf};
-ghost use Rattle.serve_line.specs.Journaling.Written.{IsWritten};
+ghost use Rattle.serve_journal.specs.Shown.{shows};
+ghost use Rattle.serve_line.specs.Journaling.Waiting.{awaited};
 ghost use Rattle.serve_line.specs.Stamps.{last_stamp};
 ghost use Rattle.serve_line.specs.Peers.{about_centre, at_peer, peer_centre, peer_name};
 
@@ -139,20 +140,22 @@ fn last_stamp_of<R: Wait>(rt: &R, node: &Node) -> u32
     last_stamp(look.log().entries())
 }
 
-// Opens an answer once more, after the journal of a centre has each event that its node has now. `None` if the journal
-// can't be written now.
+// Opens an answer once more, after the journal of the sink's centre has the event with this stamp, if answers wait for
+// that event. The second of the pair shows it. `None` if the journal can't be written now.
 fn open_again<R: Wait, T: Drop>(
     rt: &R,
-    node: &Node,
     sink: &CentreSink<'_>,
     opened: Opened<T>,
-) -> Option<Opened<T>>
-    ensures answer { IfSome result (λ again. again.answer ≡ opened.answer) }
-    ensures kept { IfSome result (λ again. IsWritten node.now sink.now) }
+    stamp: u32,
+) -> Option<(Opened<T>, Kept)>
+    ensures answer { IfSome result (λ next. next.0.answer ≡ opened.answer) }
+    ensures kept { IfSome result (λ next. shows next.1 sink.now.centre
+        (awaited (option_map (λ j. j.now.begun) sink.now.journal) stamp) ≡ true) }
 {
-    let sealed = opened.sealed(sink.centre, sink.awaited(last_stamp_of(rt, node)));
+    let sealed = opened.sealed(sink.centre, sink.awaited(stamp));
     let kept = sink.comes_to(rt, sealed.stamp())?;
-    sealed.open(&kept)
+    let again = sealed.open(&kept)?;
+    Some((again, kept))
 }
 
 /// The shared state of all workers of a running line.
@@ -219,7 +222,9 @@ impl Server<'_> {
     {
         let mut opened = Sealed::new(answer, 0, 0).open(&Kept::no_event(0))?;
         for (node, sink) in self.nodes.iter().zip(self.sinks.iter()) {
-            opened = open_again(rt, node, sink, opened)?;
+            let stamp = last_stamp_of(rt, node);
+            let (next, _) = open_again(rt, sink, opened, stamp)?;
+            opened = next;
         }
         Some(opened)
     }

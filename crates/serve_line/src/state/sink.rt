@@ -1,4 +1,5 @@
-ghost use Rattle.std.specs.Prelude.{◌≡◌, true, option_map, IfSome};
+ghost use Rattle.std.specs.Prelude.{[], ◌≡◌, ◌≢◌, true, option_map, IfSome};
+ghost use Rattle.text_script.specs.rbc_centre.Views.{outcome_of};
 ghost use Rattle.serve_journal.specs.Shown.{shows};
 ghost use Rattle.serve_line.specs.Journaling.Waiting.{awaited};
 
@@ -42,7 +43,11 @@ impl CentreSink<'_> {
     /// Waits until this answer may leave, and shows the events that the journal keeps then. `None` if the journal was
     /// given up before. An answer without a reply to the interlocking waits only if the journal is late or can't be
     /// written.
-    pub fn may_send<R: Wait>(&self, rt: &R, outcome: &Outcome) -> Option<Kept> {
+    pub fn may_send<R: Wait>(&self, rt: &R, outcome: &Outcome) -> Option<Kept>
+        ensures { IfSome result (λ kept. (outcome_of outcome.now).words ≢ []
+            → shows kept self.now.centre (awaited (option_map (λ j. j.now.begun) self.now.journal) outcome.now.stamp)
+            ≡ true) }
+    {
         if !outcome.words().is_empty() {
             return self.reaches(rt, self.awaited(outcome.stamp));
         }

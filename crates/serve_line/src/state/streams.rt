@@ -1,5 +1,5 @@
 ghost use Rattle.std.specs.Prelude.{◌≡◌, false, IfNone, IfOk, IfSome};
-ghost use Rattle.serve_line.specs.Addresses.{is_port, is_tcp, IsSameStream, listens_at_port, tcp_of};
+ghost use Rattle.serve_line.specs.Addresses.{is_port, is_tcp, IsSameStream, listens_at_port, port_number, tcp_of};
 
 use crate::state::limits::ENDPOINT_REST_MS;
 use std::alloc::{AllocError, Global};
@@ -164,10 +164,12 @@ pub enum Address {
 
 impl Address {
     /// The number of the port; 0 if it is a path.
-    pub fn port(&self) -> u16 {
-        match self.socket() {
-            Some(address) => address.port(),
-            None => 0,
+    pub fn port(&self) -> u16
+        ensures { result ≡ port_number self.now }
+    {
+        match self {
+            Address::Port(address) => address.port(),
+            Address::Path(_) => 0,
         }
     }
 

@@ -1,7 +1,8 @@
-ghost use Rattle.std.specs.Prelude.{◌≡◌, length};
+ghost use Rattle.std.specs.Prelude.{◌++◌, ◌≡◌, length, OnOk};
 ghost use Rattle.rbc_log.specs.Log.{LogValue};
 ghost use Rattle.rbc_node.specs.Node.{centre_of, IsLogOf};
-ghost use Rattle.serve_line.specs.Lives.{end_of, IsNoted, most_sent, used_of};
+ghost use Rattle.serve_line.specs.Lists.{Continues};
+ghost use Rattle.serve_line.specs.Lives.{AddsUsage, end_of, IsNoted, link_row, most_sent, used_of};
 
 use crate::stamps::last_stamp;
 use crate::status::gauge::Gauge;
@@ -90,24 +91,44 @@ pub fn write_life<R: Wait>(
     line: &Line,
     nodes: &[Node],
     text: &mut Vec<u8>,
-) -> Result<(), Fault<'static>> {
+) -> Result<(), Fault<'static>>
+    ensures { OnOk result (Continues text.old.items text.new.items) }
+{
     for node in nodes {
         write_used(line, node.look(rt).log(), text)?;
     }
     Ok(())
 }
 
-fn write_used(line: &Line, log: &CentreLog, text: &mut Vec<u8>) -> Result<(), Fault<'static>> {
+// Writes the usage of a centre's log, of its clock, and of each of its links.
+fn write_used(line: &Line, log: &CentreLog, text: &mut Vec<u8>) -> Result<(), Fault<'static>>
+    ensures { OnOk result (AddsUsage line.now log.now text.old.items text.new.items) }
+{
     let name = name_of(line, log.number());
     let (entries, stamp, _) = used_of(log, line.centre_count());
     writeln!(text, "{name} log {entries} of {MOST_ENTRIES}")?;
     writeln!(text, "{name} clock {stamp} of {LAST_STAMP}")?;
     for to in 0..line.centre_count() {
-        if line.linked(log.number(), to) {
-            let (other, frames) = (name_of(line, to), log.core().sent(to));
-            writeln!(text, "{name} link {other} {frames} of {MOST_FRAMES}")?;
-        }
+        write_link(line, log, to, text)?;
     }
+    Ok(())
+}
+
+// Writes the usage of the link from a centre to the one of this number, if they are linked.
+fn write_link(
+    line: &Line,
+    log: &CentreLog,
+    to: u8,
+    text: &mut Vec<u8>,
+) -> Result<(), Fault<'static>>
+    ensures { OnOk result (text.new.items ≡ text.old.items ++ link_row line.now log.now.core to) }
+{
+    if !line.linked(log.number(), to) {
+        return Ok(());
+    }
+    let (name, other) = (name_of(line, log.number()), name_of(line, to));
+    let frames = log.core().sent(to);
+    writeln!(text, "{name} link {other} {frames} of {MOST_FRAMES}")?;
     Ok(())
 }
 

@@ -1,8 +1,10 @@
 ghost use Rattle.std.specs.List.{flat_map, range_with_len};
-ghost use Rattle.std.specs.Prelude.{◌≡◌, ◌++◌, ℕ, IfOk, length, List, OnOk, replicate, slice_set, false, None, Some};
+ghost use Rattle.std.specs.Prelude.{◌<◌, ◌≡◌, ◌≢◌, ◌++◌, ℕ, IfOk, length, List, OnOk, replicate, slice_get, slice_set};
+ghost use Rattle.std.specs.Prelude.{false, None, Some};
 ghost use Rattle.rbc_book.specs.declared.page.Entry.TheVariants.{Shut};
 ghost use Rattle.text_script.specs.rbc_world.View.{mark_shown, mark_by};
-ghost use Rattle.serve_line.specs.Snapshots.{is_given_in, IsShown, mission_in, page_in, section_row_in};
+ghost use Rattle.serve_line.specs.Snapshots.{HasCentre, HasMission, HasPage, is_given_in, IsShow, IsShown, mission_in};
+ghost use Rattle.serve_line.specs.Snapshots.{page_in, section_row_in};
 ghost use Rattle.serve_line.specs.Snapshots.{train_row_in};
 
 use crate::status::mention_order::MentionOrder;
@@ -11,9 +13,8 @@ use rbc_line::Line;
 use rbc_log::{CentreLog, MOST_ENTRIES};
 use rbc_node::Node;
 use std::alloc::{AllocError, Global};
-use std::io::Write;
 use std::sync::{Mutex, Wait};
-use text_script::print::{print_section, print_train};
+use text_script::print::{print_section, print_show, print_train};
 use text_script::status::Fault;
 use text_script::{Mark, SectionRun, SectionView, mark_of};
 
@@ -41,7 +42,9 @@ pub fn show<R: Wait>(
     nodes: &[Node],
     mentions: &Mutex<MentionOrder>,
     text: &mut Vec<u8>,
-) -> Result<(), Fault<'static>> {
+) -> Result<(), Fault<'static>>
+    ensures { OnOk result ((shown : List ℕ) × IsShow line.now shown × (text.new.items ≡ text.old.items ++ shown)) }
+{
     let mut snapshot = Snapshot::new(alloc, line)?;
     let mut mention_order = mentions.lock(rt);
     for node in nodes {
@@ -52,7 +55,7 @@ pub fn show<R: Wait>(
         snapshot.add(line, look.log());
         mention_order.read_on(line, look.log());
     }
-    writeln!(text, "> show")?;
+    print_show(text)?;
     snapshot.print(alloc, line, &mention_order, text)
 }
 
@@ -80,19 +83,45 @@ impl Snapshot {
     }
 
     /// Adds a centre's own sections, and the trains that it supervises.
-    pub fn add(&mut self, line: &Line, log: &CentreLog) {
+    pub fn add(&mut self, line: &Line, log: &CentreLog)
+        ensures { HasCentre line.now log.now.core self.old self.new }
+    {
+        self.add_pages(line, log);
+        self.add_missions(line, log);
+    }
+
+    // Adds the pages of the sections of which the centre is the home.
+    fn add_pages(&mut self, line: &Line, log: &CentreLog)
+        ensures missions { self.new.missions.items ≡ self.old.missions.items }
+        ensures pages { (s : ℕ) → s < length line.now.sections
+            → HasPage line.now log.now.core s (slice_get self.old.pages.items s) (slice_get self.new.pages.items s) }
+    {
         for s in 0..line.section_count() {
             self.add_page(line, log, s);
         }
-        for i in 0..line.train_count() {
-            self.add_mission(line, log, i);
-        }
     }
 
-    fn add_page(&mut self, line: &Line, log: &CentreLog, s: u16) {
+    fn add_page(&mut self, line: &Line, log: &CentreLog, s: u16)
+        ensures missions { self.new.missions.items ≡ self.old.missions.items }
+        ensures page { HasPage line.now log.now.core s (slice_get self.old.pages.items s)
+            (slice_get self.new.pages.items s) }
+        ensures others { (k : ℕ) → k ≢ s → slice_get self.new.pages.items k ≡ slice_get self.old.pages.items k }
+    {
         let centre = log.core();
         if line.is_home(centre.number(), s) {
             self.set_page(s, centre.page(s));
+        }
+    }
+
+    // Adds the missions of the trains that the centre supervises.
+    fn add_missions(&mut self, line: &Line, log: &CentreLog)
+        ensures pages { self.new.pages.items ≡ self.old.pages.items }
+        ensures missions { (i : ℕ) → i < length line.now.trains
+            → HasMission line.now log.now.core i (slice_get self.old.missions.items i)
+            (slice_get self.new.missions.items i) }
+    {
+        for i in 0..line.train_count() {
+            self.add_mission(line, log, i);
         }
     }
 
@@ -105,7 +134,13 @@ impl Snapshot {
         }
     }
 
-    fn add_mission(&mut self, line: &Line, log: &CentreLog, i: u8) {
+    fn add_mission(&mut self, line: &Line, log: &CentreLog, i: u8)
+        ensures pages { self.new.pages.items ≡ self.old.pages.items }
+        ensures mission { HasMission line.now log.now.core i (slice_get self.old.missions.items i)
+            (slice_get self.new.missions.items i) }
+        ensures others { (k : ℕ) → k ≢ i
+            → slice_get self.new.missions.items k ≡ slice_get self.old.missions.items k }
+    {
         let centre = log.core();
         let Some(train) = line.train(i) else {
             return;

@@ -1,4 +1,4 @@
-use Rattle.std.proofs.Common.{◌<◌, ◌≡◌, ◌≤◌, length, slice_get, ℕ}
+use Rattle.std.proofs.Common.{◌<◌, ◌≡◌, ◌≤◌, slice_get, ℕ}
 use Rattle.serve_line.proofs.looking.marks.copy_places.Given as goal
 use Rattle.serve_line.specs.Marks.{marked}
 

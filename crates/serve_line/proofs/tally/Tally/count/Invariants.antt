@@ -4,6 +4,6 @@ use Rattle.serve_line.proofs.tally.Tally.count.Given as goal
 use Rattle.serve_line.specs.Tallies.{tallied, tally_of}
 
 abbrev pub invariant-loop-byte : goal.invariant-loop-byte
-invariant-loop-byte g l =
+invariant-loop-byte l =
     fold tallied (tally_of l.self.events l.self.is_new) (drop l.byte-index l.bytes)
     ≡ fold tallied (tally_of l.initial.self.events l.initial.self.is_new) l.bytes

@@ -1,5 +1,5 @@
 use Rattle.std.proofs.Common.{◌+◌, ◌<◌, ◌≡◌, ◌≢◌, ◌∙◌, ap, arith, below_more, get_or, get_or-set_other, get_or-set_same}
-use Rattle.std.proofs.Common.{length, List, rules, slice_get, Some, sym, ℕ}
+use Rattle.std.proofs.Common.{length, List, rules, slice_get, Some, ℕ}
 use Rattle.std.proofs.lemmas.Option.{slice_get-get_or, slice_get_within}
 use Rattle.serve_line.proofs.clients.paced.Pieces.give.Goals as goal
 use Rattle.serve_line.proofs.clients.paced.Pieces.give.Goals.{in_default-take}

@@ -1,4 +1,4 @@
-use Rattle.std.proofs.Common.{◌++◌, ◌≡◌, drop, take}
+use Rattle.std.proofs.Common.{◌++◌, ◌≡◌, drop}
 use Rattle.serve_line.proofs.status.mention_order.MentionOrder.heard.Given as goal
 use Rattle.serve_line.specs.Mentions.{heard_from}
 
