@@ -1,3 +1,5 @@
+ghost use Rattle.std.specs.Prelude.{◌≡◌, IfOk};
+
 use crate::fault::{DemoFault, happened};
 use crate::interlocking::Interlocking;
 use crate::links::Links;
@@ -32,7 +34,11 @@ pub struct Demo {
 
 impl Demo {
     /// A line before its first second, with trains on it.
-    pub fn new(alloc: Global, line: &Line, settings: Settings) -> Result<Demo, DemoFault> {
+    pub fn new(alloc: Global, line: &Line, settings: Settings) -> Result<Demo, DemoFault>
+        ensures settings { IfOk result (λ demo. (demo.settings ≡ settings) × (demo.draws.x ≡ settings.seed)) }
+        ensures time { IfOk result (λ demo. demo.now ≡ 1000) }
+        ensures line { IfOk result (λ demo. demo.railway.line ≡ line.now) }
+    {
         let interlocking = Interlocking::new(alloc, line)?;
         let mut fleet = Fleet::new(alloc);
         let mut drivers = Vec::new(alloc);
@@ -89,7 +95,7 @@ impl Demo {
 
     // The centres answered an event: their messages and frames are on the way.
     fn answered(&mut self, event: Option<&WorldEvent>) -> Result<(), DemoFault> {
-        self.tally.events = self.tally.events.saturating_add(1);
+        self.tally.happen();
         let Some(number) = self.railway.answers().len().checked_sub(1) else {
             return Ok(());
         };

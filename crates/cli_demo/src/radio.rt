@@ -1,13 +1,13 @@
 //! The radio: messages between trains and centres are on the way for any time. They arrive in any order, some twice.
 
-ghost use Rattle.std.specs.Prelude.{[], ◌++◌, ◌≡◌, ◌≤◌, ◌∷◌, OnErr, OnOk};
-ghost use Rattle.cli_demo.specs.Flights.{Arrives};
+ghost use Rattle.std.specs.Prelude.{[], ◌+◌, ◌++◌, ◌-◌, ◌≡◌, ◌≤◌, ◌^◌, ◌∷◌, length, min, OnErr, OnOk};
+ghost use Rattle.cli_demo.specs.Flights.{Arrives, sent_down};
 
 use cli_storm::{Draws, below, in_hundred};
 use std::alloc::{AllocError, Global};
 
 /// A message on the way, by its place in the railway.
-#[derive(Clone, Copy, Debug)]
+#[derive(Clone, Copy)]
 pub(crate) enum Flight {
     /// A message of a train to a centre.
     Up { message: usize },
@@ -16,7 +16,7 @@ pub(crate) enum Flight {
 }
 
 /// The messages on the way.
-#[derive(Debug, Drop)]
+#[derive(Drop)]
 pub(crate) struct Radio {
     flights: Vec<Flight>,
     loss: u8,
@@ -39,7 +39,9 @@ impl Radio {
     }
 
     /// How many messages are on the way.
-    pub(crate) fn count(&self) -> usize {
+    pub(crate) fn count(&self) -> usize
+        ensures { result ≡ length self.now.flights.items }
+    {
         self.flights.len()
     }
 
@@ -48,6 +50,8 @@ impl Radio {
         ensures kept { self.old.loss ≡ 0
             → OnOk result (self.new.flights.items ≡ self.old.flights.items ++ flight ∷ []) }
         ensures lost { 100 ≤ self.old.loss → self.new.flights.items ≡ self.old.flights.items }
+        ensures sent { self.new.sent ≡ min (self.old.sent + 1) (2 ^ 64 - 1) }
+        ensures loss { self.new.loss ≡ self.old.loss }
         ensures err { OnErr result (self.new.flights.items ≡ self.old.flights.items) }
     {
         self.sent = self.sent.saturating_add(1);
@@ -65,7 +69,11 @@ impl Radio {
         draws: &mut Draws,
         answer: usize,
         count: usize,
-    ) -> Result<(), AllocError> {
+    ) -> Result<(), AllocError>
+        ensures kept { self.old.loss ≡ 0 → OnOk result (self.new.flights.items
+            ≡ self.old.flights.items ++ sent_down answer count) }
+        ensures sent { OnOk result (self.new.sent ≡ min (self.old.sent + count) (2 ^ 64 - 1)) }
+    {
         for which in 0..count {
             self.send(draws, Flight::Down { answer, which })?;
         }

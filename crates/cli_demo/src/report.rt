@@ -1,17 +1,24 @@
 //! The print of a demo: a table of its trains, or a script of its events.
 
+ghost use Rattle.std.specs.Io.KnownBytes.{Appends};
+ghost use Rattle.std.specs.Prelude.{◌&&◌, ◌+◌, ◌-◌, ◌/◌, ◌^◌, ◌≡◌, codes, if◌then◌else◌, IfSome, min, nat_le, OnOk};
+ghost use Rattle.std.specs.Prelude.{true};
+ghost use Rattle.cli_demo.specs.Script.{event_text, row_text};
+
 use crate::demo::Demo;
 use crate::fault::DemoFault;
 use rbc_line::Line;
 use std::alloc::Global;
+use std::fmt::Display;
 use std::io::Write;
 use text_script::WorldEvent;
+use text_script::print::name_of;
 
 /// The number of events after which each train has a line.
 const OFTEN: u32 = 500;
 
 /// The counts of a demo.
-#[derive(Clone, Copy, Debug)]
+#[derive(Clone, Copy)]
 pub(crate) struct Tally {
     pub(crate) events: u32,
     pub(crate) handovers: u32,
@@ -21,12 +28,58 @@ pub(crate) struct Tally {
 }
 
 impl Tally {
-    pub(crate) fn new() -> Tally {
+    pub(crate) fn new() -> Tally
+        ensures { result ≡ record { events = 0; handovers = 0; is_safe = true; shown = 0 } }
+    {
         Tally {
             events: 0,
             handovers: 0,
             is_safe: true,
             shown: 0,
+        }
+    }
+
+    /// Counts an event.
+    pub(crate) fn happen(&mut self)
+        ensures { self.new ≡ record self.old { events = min (self.old.events + 1) (2 ^ 32 - 1) } }
+    {
+        self.events = self.events.saturating_add(1);
+    }
+
+    /// Counts a change of the centre that a train follows. The first centre of a train is not a change.
+    fn follow(&mut self, is_first: bool)
+        ensures { self.new ≡ (if is_first then self.old
+            else record self.old { handovers = min (self.old.handovers + 1) (2 ^ 32 - 1) }) }
+    {
+        if !is_first {
+            self.handovers = self.handovers.saturating_add(1);
+        }
+    }
+
+    /// Takes the check at the end of a second.
+    pub(crate) fn check(&mut self, is_safe: bool)
+        ensures { self.new ≡ record self.old { is_safe = self.old.is_safe && is_safe } }
+    {
+        self.is_safe = self.is_safe && is_safe;
+    }
+
+    /// Whether all trains are to be shown: `OFTEN` events came since they were shown last.
+    fn is_due(&self) -> bool
+        ensures { result ≡ nat_le 500 (self.now.events - self.now.shown) }
+    {
+        self.events.saturating_sub(self.shown) >= OFTEN
+    }
+
+    /// The verdict on all seconds.
+    fn verdict(&self) -> &'static str
+        ensures { result.now ≡ (if self.now.is_safe
+            then codes "At no second were two trains on one section, or a train on a section that was not released."
+            else codes "FAILED: two trains were on one section, or a train on a section that was not released.") }
+    {
+        if self.is_safe {
+            "At no second were two trains on one section, or a train on a section that was not released."
+        } else {
+            "FAILED: two trains were on one section, or a train on a section that was not released."
         }
     }
 }
@@ -50,14 +103,12 @@ impl Demo {
         is_first: bool,
         out: &mut W,
     ) -> Result<(), DemoFault> {
-        if !is_first {
-            self.tally.handovers = self.tally.handovers.saturating_add(1);
-        }
+        self.tally.follow(is_first);
         self.show(train, out)
     }
 
     pub(crate) fn show_often<W: Write>(&mut self, out: &mut W) -> Result<(), DemoFault> {
-        if self.tally.events.saturating_sub(self.tally.shown) < OFTEN {
+        if !self.tally.is_due() {
             return Ok(());
         }
         self.tally.shown = self.tally.events;
@@ -65,6 +116,12 @@ impl Demo {
             self.show(train, out)?;
         }
         Ok(())
+    }
+
+    fn second_now(&self) -> u32
+        ensures { result ≡ (self.entry.now.now - 1000) / 100 }
+    {
+        self.now.saturating_sub(1_000) / 100
     }
 
     // A line of the table: the place of a train, the end of its authority, and the centre that it follows.
@@ -91,12 +148,11 @@ impl Demo {
             Some(centre) => line.centre_name(centre).unwrap_or("?"),
             None => "-",
         };
-        let second = self.now.saturating_sub(1_000) / 100;
         writeln!(
             out,
             "{:>8}{:>8}{:>10}  {:<16}{:>11}{:>13}  {centre}",
             self.tally.events,
-            second,
+            self.second_now(),
             running.nid_engine(),
             track,
             metres,
@@ -122,7 +178,6 @@ impl Demo {
         let Tally {
             events,
             handovers,
-            is_safe,
             ..
         } = self.tally;
         writeln!(
@@ -131,17 +186,7 @@ impl Demo {
             self.radio.sent, self.radio.lost
         )?;
         writeln!(out, "{arrived} of {} trains arrived", self.drivers.len())?;
-        if is_safe {
-            writeln!(
-                out,
-                "At no second were two trains on one section, or a train on a section that was not released."
-            )?;
-        } else {
-            writeln!(
-                out,
-                "FAILED: two trains were on one section, or a train on a section that was not released."
-            )?;
-        }
+        writeln!(out, "{}", self.tally.verdict())?;
         Ok(())
     }
 }
@@ -152,34 +197,39 @@ pub(crate) fn print_event<W: Write>(
     line: &Line,
     event: &WorldEvent,
     out: &mut W,
-) -> Result<(), DemoFault> {
+) -> Result<(), DemoFault>
+    ensures { OnOk result (Appends (W.contents out.old) (W.contents out.new) (event_text line.now event.now)) }
+{
     match event {
         WorldEvent::Train { centre, bytes } => {
             let digits = hex::encode_upper(alloc, bytes)?;
-            writeln!(out, "train {} {digits}", name(line, *centre))?;
+            print_row(out, "train", name_of(line, *centre), digits)
         }
-        WorldEvent::Set { centre, section } => writeln!(
-            out,
-            "set {} {section}",
-            name(line, *centre)
-        )?,
-        WorldEvent::Unset { centre, section } => writeln!(
-            out,
-            "unset {} {section}",
-            name(line, *centre)
-        )?,
+        WorldEvent::Set { centre, section } => {
+            print_row(out, "set", name_of(line, *centre), *section)
+        }
+        WorldEvent::Unset { centre, section } => {
+            print_row(out, "unset", name_of(line, *centre), *section)
+        }
         WorldEvent::Deliver { from, to, number } => {
-            writeln!(
-                out,
-                "deliver {} {} {number}",
-                name(line, *from),
-                name(line, *to)
-            )?;
+            let from = name_of(line, *from);
+            let to = name_of(line, *to);
+            writeln!(out, "deliver {from} {to} {number}")?;
+            Ok(())
         }
     }
-    Ok(())
 }
 
-fn name(line: &Line, centre: u8) -> &str {
-    line.centre_name(centre).unwrap_or("?")
+// Prints a line of a script: its word, the centre that it names, and the text after that.
+fn print_row<W: Write, D: Display + Drop>(
+    out: &mut W,
+    word: &str,
+    centre: &str,
+    rest: D,
+) -> Result<(), DemoFault>
+    ensures { OnOk result (IfSome (D.output rest) (λ text. Appends (W.contents out.old) (W.contents out.new)
+        (row_text word.now centre.now text))) }
+{
+    writeln!(out, "{word} {centre} {rest}")?;
+    Ok(())
 }

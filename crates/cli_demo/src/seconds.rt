@@ -1,6 +1,8 @@
 //! The seconds of a demo.
 
-ghost use Rattle.std.specs.Prelude.{OnOk};
+ghost use Rattle.std.specs.Prelude.{◌&&◌, ◌≡◌, ◌≤◌, false, IfOk, IfSome, length, OnOk};
+ghost use Rattle.cli_demo.specs.Running.{next_front};
+ghost use Rattle.cli_demo.specs.Trains.{asked_ends, ends_among, ends_of, is_safe_now};
 ghost use Rattle.rbc_railway.specs.Railways.{IsSafeRailway};
 
 use crate::check::is_safe;
@@ -11,6 +13,7 @@ use crate::radio::Flight;
 use cli_storm::below;
 use rbc_line::Section;
 use rbc_railway::each_railway_is_safe;
+use std::alloc::AllocError;
 use std::io::Write;
 use text_script::Answer;
 use train_unit::Ends;
@@ -22,6 +25,7 @@ impl Demo {
     pub fn run<W: Write>(&mut self, out: &mut W) -> Result<bool, DemoFault>
         // Whatever was drawn, no two accepted trains are on one section, and none is on a section that is not released.
         ensures safe { OnOk result (IsSafeRailway self.new.railway) }
+        ensures told { IfOk result (λ was_safe. was_safe ≡ self.new.tally.is_safe) }
     {
         self.begin(out)?;
         for _ in 0..self.settings.events {
@@ -60,7 +64,9 @@ impl Demo {
     }
 
     // The true ends of a train.
-    pub(crate) fn ends(&self, train: usize) -> Option<Ends> {
+    pub(crate) fn ends(&self, train: usize) -> Option<Ends>
+        ensures { result ≡ ends_of self.entry.now train }
+    {
         Some(self.railway.trains().get(train)?.ends())
     }
 
@@ -73,7 +79,9 @@ impl Demo {
         true
     }
 
-    pub(crate) fn has_arrived(&self, train: usize) -> bool {
+    pub(crate) fn has_arrived(&self, train: usize) -> bool
+        ensures { length self.entry.now.drivers.items ≤ train → result ≡ false }
+    {
         match (self.drivers.get(train), self.ends(train)) {
             (Some(driver), Some(ends)) => driver.has_arrived(ends),
             _ => false,
@@ -97,12 +105,9 @@ impl Demo {
         let Some(limit) = running.unit().may_reach(ends.front) else {
             return Ok(());
         };
-        let most = (limit.min(20_000_000) as u32)
-            .min(driver.goal)
-            .saturating_sub(MARGIN);
+        let goal = driver.goal;
         let speed = below(&mut self.draws, 400) as u32 + 200;
-        let front = ends.front.saturating_add(speed).min(most);
-        if front > ends.front {
+        if let Some(front) = next_front(ends.front, limit, goal, speed) {
             let rear = front as i32 - LENGTH as i32;
             happened(self.railway.run_to(train, front, rear))?;
         }
@@ -191,21 +196,58 @@ impl Demo {
     }
 
     // Looks at the true places of all trains.
-    fn check(&mut self) -> Result<(), DemoFault> {
-        let mut all = Vec::new(self.alloc);
-        let mut accepted = Vec::new(self.alloc);
-        for train in 0..self.drivers.len() {
-            if let Some(ends) = self.ends(train) {
-                all.push(ends)?;
-                if self.is_accepted(train) {
-                    accepted.push(ends)?;
-                }
-            }
-        }
-        let Interlocking { sections, released } = &self.interlocking;
-        if !is_safe(sections, released, &all, &accepted) {
-            self.tally.is_safe = false;
-        }
+    fn check(&mut self) -> Result<(), DemoFault>
+        ensures { OnOk result (self.new.tally.is_safe ≡ (self.old.tally.is_safe && is_safe_now self.old)) }
+    {
+        let was_safe = self.is_safe_now()?;
+        self.tally.check(was_safe);
         Ok(())
     }
+
+    // Whether no two trains are on one section, and each section under an accepted one is released.
+    fn is_safe_now(&self) -> Result<bool, AllocError>
+        ensures { IfOk result (λ was_safe. was_safe ≡ is_safe_now self.entry.now) }
+    {
+        let all = self.asked_ends(true)?;
+        let accepted = self.asked_ends(false)?;
+        let Interlocking { sections, released } = &self.interlocking;
+        Ok(is_safe(sections, released, &all, &accepted))
+    }
+
+    // The true ends of all trains, or of those that a centre has accepted.
+    fn asked_ends(&self, is_for_all: bool) -> Result<Vec<Ends>, AllocError>
+        ensures { IfOk result (λ ends. ends.items
+            ≡ ends_among self.entry.now is_for_all (length self.entry.now.drivers.items)) }
+    {
+        let mut asked = Vec::new(self.alloc);
+        for train in 0..self.drivers.len() {
+            if let Some(ends) = self.asked_end(is_for_all, train) {
+                asked.push(ends)?;
+            }
+        }
+        Ok(asked)
+    }
+
+    fn asked_end(&self, is_for_all: bool, train: usize) -> Option<Ends>
+        ensures { result ≡ asked_ends self.entry.now is_for_all train }
+    {
+        let ends = self.ends(train)?;
+        if is_for_all || self.is_accepted(train) {
+            Some(ends)
+        } else {
+            None
+        }
+    }
+}
+
+// The place of a front end after a second at this speed, in decimetres. None if the train stays.
+fn next_front(front: u32, limit: u64, goal: u32, speed: u32) -> Option<u32>
+    ensures exact { result ≡ next_front front limit goal speed }
+    ensures range { IfSome result (λ next. next ≤ 20000000) }
+{
+    let most = (limit.min(20_000_000) as u32)
+        .min(goal)
+        .saturating_sub(MARGIN);
+    let next = front.saturating_add(speed).min(most);
+    if next > front { Some(next) } else { None }
 }

@@ -1,5 +1,5 @@
 /// The settings of a demo.
-#[derive(Clone, Copy, Debug)]
+#[derive(Clone, Copy)]
 pub struct Settings {
     /// The most trains. The line file and the tracks may have room for fewer.
     pub trains: u8,

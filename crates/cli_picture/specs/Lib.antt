@@ -1,6 +1,12 @@
+pub mod Bars
+pub mod Boxes
+pub mod Fronts
 pub mod Homes
 pub mod Looks
 pub mod Missions
+pub mod Requests
+pub mod Rings
 pub mod Scale
 pub mod Texts
 pub mod Time
+pub mod Titles

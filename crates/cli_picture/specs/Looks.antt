@@ -7,7 +7,7 @@ use Rattle.rbc_msgs.specs.declared.train_body.TrainBody.TheVariants.{Request, Se
 use Rattle.rbc_msgs.specs.declared.train_body.TrainBody.TheVariants.{ShorteningGranted, ShorteningRejected}
 use Rattle.rbc_msgs.specs.declared.train_body.TrainBody.TheVariants.{StartOfMission, TerminationOfSession, TrainData}
 use Rattle.rbc_packets.specs.declared.position.Position.{Position}
-use Rattle.std.specs.Prelude.{Bool, codes, is_some, List, None, Option, Some, true, ℕ}
+use Rattle.std.specs.Prelude.{Bool, codes, false, is_some, List, None, Option, Some, true, ℕ}
 use Rattle.text_script.specs.rbc_book.declared.mark.Mark.{Mark}
 use Rattle.text_script.specs.rbc_book.declared.mark.Mark.TheVariants.{Given, Kept, Open, Shut}
 use Rattle.text_script.specs.rbc_world.declared.event.Answer.{Answer}
@@ -21,6 +21,13 @@ use_of (Given engine) = Some (codes "", codes "", engine)
 use_of (Kept engine) = Some (codes " kept", codes "kept for ", engine)
 use_of Shut = None
 use_of Open = None
+
+-- the event is a message of a train
+abbrev pub is_message : WorldEvent → Bool
+is_message (event.Train centre bytes) = true
+is_message (event.Set centre section) = false
+is_message (event.Unset centre section) = false
+is_message (event.Deliver from to number) = false
 
 -- the kind of an order of the interlocking, or of a frame
 abbrev pub order_of : WorldEvent → Kind

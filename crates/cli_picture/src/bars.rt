@@ -1,8 +1,10 @@
 //! Draws the sections of trains, and the trains' numbers at the start of their missions.
 
-ghost use Rattle.std.specs.Prelude.{◌≡◌, List, option_map, ℕ};
+ghost use Rattle.std.specs.Prelude.{[], ◌≡◌, ◌++◌, codes, if◌then◌else◌, is_some, IfSome, List, OnOk, option_map, ℕ};
+ghost use Rattle.cli_picture.specs.Bars.{box_of, name_text, number_of, range_text, start_text, wish_class};
+ghost use Rattle.std.specs.Prelude.{length, nat_lt, None, Some};
 ghost use Rattle.cli_picture.specs.Looks.{use_of};
-ghost use Rattle.cli_picture.specs.Texts.{wish_class};
+ghost use Rattle.cli_picture.specs.Texts.{Draws};
 
 use crate::run::{Run, nid_engine_of, track_of};
 use crate::scale::Scale;
@@ -12,7 +14,7 @@ use rbc_place::{section_end, section_start};
 use std::alloc::{AllocError, Global};
 use text_page::Utc;
 use text_replay::Stretch;
-use text_script::Mark;
+use text_script::{Mark, MissionView};
 
 pub fn draw_bars(
     alloc: Global,
@@ -81,7 +83,9 @@ fn draw_box(
     scale: &Scale<'_>,
     section: u16,
     stretch: &Stretch,
-) -> Result<(), AllocError> {
+) -> Result<(), AllocError>
+    ensures { OnOk result (Draws svg.old svg.new (box_of scale.now section stretch.now.since stretch.now.until)) }
+{
     let track = track_of(scale.line, section);
     let x = scale.x(track, section_start(scale.line, section));
     let right = scale.x(track, section_end(scale.line, section.into()));
@@ -121,13 +125,31 @@ fn draw_times(
 }
 
 fn draw_numbers(svg: &mut String, run: &Run<'_>, stretch: &Stretch) -> Result<(), AllocError> {
+    let (since, until) = numbers_of(run, stretch);
+    draw_range(svg, since, until)
+}
+
+/// The numbers of the events in which a stretch begins and ends. It has no end if it lasts to the last drawn event.
+fn numbers_of(run: &Run<'_>, stretch: &Stretch) -> (usize, Option<usize>)
+    ensures since { result.0 ≡ number_of run.now stretch.now.since }
+    ensures until { result.1 ≡ (if nat_lt stretch.now.until (length run.now.events.items)
+        then Some (number_of run.now stretch.now.until) else None) }
+{
     let since = run.number(stretch.since);
-    write!(svg, ", from event {since}")?;
-    if stretch.until < run.events.len() {
-        let until = run.number(stretch.until);
-        write!(svg, " to {until}")?;
+    if run.has(stretch.until) {
+        (since, Some(run.number(stretch.until)))
+    } else {
+        (since, None)
     }
-    Ok(())
+}
+
+fn draw_range(svg: &mut String, since: usize, until: Option<usize>) -> Result<(), AllocError>
+    ensures { OnOk result (Draws svg.old svg.new (range_text since until)) }
+{
+    match until {
+        Some(until) => write!(svg, ", from event {since} to {until}"),
+        None => write!(svg, ", from event {since}"),
+    }
 }
 
 /// Draws the number of a train at the start of its authority when its mission begins. The first drawn event has the
@@ -138,24 +160,50 @@ fn draw_names(
     run: &Run<'_>,
     train: u8,
 ) -> Result<(), AllocError> {
-    let colour = colour_of(train);
-    let nid_engine = nid_engine_of(run.line, train);
     for e in 0..run.events.len() {
         let (before, after) = run.missions(e, train);
-        if let Some(mission) = after {
-            if e == 0 || before.is_none() {
-                let first = mission.hand.first;
-                let track = track_of(run.line, first);
-                let x = scale
-                    .x(track, section_start(run.line, first))
-                    .saturating_add(4);
-                let y = scale.y(e).saturating_add(13);
-                writeln!(
-                    svg,
-                    "<text class=\"name c{colour}\" x=\"{x}\" y=\"{y}\">{nid_engine}</text>"
-                )?;
-            }
-        }
+        draw_start(svg, scale, before, after, (train, e))?;
     }
     Ok(())
+}
+
+/// Draws the number of a train if its mission begins in an event, or goes on in the first drawn event. `at` has the
+/// train and the event.
+fn draw_start(
+    svg: &mut String,
+    scale: &Scale<'_>,
+    before: Option<MissionView>,
+    after: Option<MissionView>,
+    at: (u8, usize),
+) -> Result<(), AllocError>
+    ensures { OnOk result (Draws svg.old svg.new (start_text scale.now before after at.0 at.1)) }
+{
+    match after {
+        Some(mission) if at.1 == 0 || before.is_none() => {
+            draw_name(svg, scale, at.0, mission.hand.first, at.1)
+        }
+        _ => Ok(()),
+    }
+}
+
+// Draws the number of a train at the start of a section, below the place of an event.
+fn draw_name(
+    svg: &mut String,
+    scale: &Scale<'_>,
+    train: u8,
+    section: u16,
+    event: usize,
+) -> Result<(), AllocError>
+    ensures { OnOk result (Draws svg.old svg.new (name_text scale.now train section event)) }
+{
+    let colour = colour_of(train);
+    let nid_engine = nid_engine_of(scale.line, train);
+    let track = track_of(scale.line, section);
+    let start = scale.x(track, section_start(scale.line, section));
+    let x = start.saturating_add(4);
+    let y = scale.y(event).saturating_add(13);
+    writeln!(
+        svg,
+        "<text class=\"name c{colour}\" x=\"{x}\" y=\"{y}\">{nid_engine}</text>"
+    )
 }

@@ -1,5 +1,9 @@
 //! Draws the page: its layers in order, and the place of each part.
 
+ghost use Rattle.std.specs.Prelude.{◌≡◌, OnOk};
+ghost use Rattle.cli_picture.specs.Titles.{count_text};
+ghost use Rattle.cli_picture.specs.Texts.{Draws};
+
 use crate::bars::draw_bars;
 use crate::events::draw_events;
 use crate::fronts::draw_fronts;
@@ -83,7 +87,9 @@ fn draw_title(svg: &mut String, run: &Run<'_>) -> Result<(), AllocError> {
 }
 
 /// Writes which events are drawn. Over time they have no numbers.
-fn draw_count(svg: &mut String, run: &Run<'_>) -> Result<(), AllocError> {
+fn draw_count(svg: &mut String, run: &Run<'_>) -> Result<(), AllocError>
+    ensures { OnOk result (Draws svg.old svg.new (count_text run.now)) }
+{
     let drawn = run.drawn();
     let all = run.event_count;
     if drawn >= all {

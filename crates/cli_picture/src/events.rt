@@ -1,7 +1,10 @@
 //! Draws the events, with their numbers and descriptions, as far as there is room.
 
-ghost use Rattle.std.specs.Prelude.{◌≡◌, OnOk};
-ghost use Rattle.cli_picture.specs.Texts.{Draws, order_text, words_class};
+ghost use Rattle.std.specs.Prelude.{◌≡◌, codes, OnOk};
+ghost use Rattle.std.specs.Fmt.{decimal};
+ghost use Rattle.cli_picture.specs.Scale.{y_of};
+ghost use Rattle.cli_picture.specs.Texts.{Draws, frame_text, kind_text, number_text, order_text, words_class};
+ghost use Rattle.cli_picture.specs.Texts.{begin_text, line_at, words_text, words_to};
 ghost use Rattle.text_script.specs.Print.Rows.{name_at};
 
 use crate::run::{Event, Kind, Run};
@@ -19,6 +22,9 @@ const MOST_NAMES: usize = 10;
 const WORDS: u64 = 52;
 
 const WORDS_OF_TIME: u64 = 64;
+
+// The right end of the numbers.
+const NUMBERS: u64 = 44;
 
 pub fn draw_events(
     alloc: Global,
@@ -50,13 +56,28 @@ fn draw_number(
     scale: &Scale<'_>,
     e: usize,
     number: usize,
-) -> Result<(), AllocError> {
+) -> Result<(), AllocError>
+    ensures { OnOk result (Draws svg.old svg.new (number_text (y_of scale.now e) number)) }
+{
     let y = scale.y(e);
-    writeln!(svg, "<path class=\"event\" d=\"M{LEFT} {y}H{RIGHT}\"/>")?;
-    let y = y.saturating_add(4);
+    draw_line(svg, y)?;
+    draw_words_to(svg, NUMBERS, y.saturating_add(4), number)
+}
+
+/// Draws a line through all tracks.
+pub fn draw_line(svg: &mut String, y: u64) -> Result<(), AllocError>
+    ensures { OnOk result (Draws svg.old svg.new (line_at y)) }
+{
+    writeln!(svg, "<path class=\"event\" d=\"M{LEFT} {y}H{RIGHT}\"/>")
+}
+
+/// Writes small words that end at a place.
+fn draw_words_to(svg: &mut String, x: u64, y: u64, number: usize) -> Result<(), AllocError>
+    ensures { OnOk result (Draws svg.old svg.new (words_to x y (decimal number))) }
+{
     writeln!(
         svg,
-        "<text x=\"44\" y=\"{y}\" class=\"small\" text-anchor=\"end\">{number}</text>"
+        "<text x=\"{x}\" y=\"{y}\" class=\"small\" text-anchor=\"end\">{number}</text>"
     )
 }
 
@@ -66,17 +87,25 @@ pub fn draw_words(
     scale: &Scale<'_>,
     e: usize,
     event: &Event,
-) -> Result<(), AllocError> {
+) -> Result<(), AllocError>
+    ensures { OnOk result (Draws svg.old svg.new (words_text scale.now e event.now)) }
+{
     let x = if scale.axis.is_some() {
         WORDS_OF_TIME
     } else {
         WORDS
     };
     let y = scale.y(e).saturating_add(4);
-    let class = words_class(event.is_silent);
-    write!(svg, "<text x=\"{x}\" y=\"{y}\" class=\"{class}\">")?;
+    begin_text(svg, x, y, words_class(event.is_silent))?;
     draw_kind(svg, scale.line, event.kind)?;
     writeln!(svg, "</text>")
+}
+
+// Begins words of this class at a place.
+fn begin_text(svg: &mut String, x: u64, y: u64, class: &str) -> Result<(), AllocError>
+    ensures { OnOk result (Draws svg.old svg.new (begin_text x y class.now)) }
+{
+    write!(svg, "<text x=\"{x}\" y=\"{y}\" class=\"{class}\">")
 }
 
 // The class of a description.
@@ -86,7 +115,9 @@ fn words_class(is_silent: bool) -> &'static str
     if is_silent { "small silent" } else { "small" }
 }
 
-fn draw_kind(svg: &mut String, line: &Line, kind: Kind) -> Result<(), AllocError> {
+fn draw_kind(svg: &mut String, line: &Line, kind: Kind) -> Result<(), AllocError>
+    ensures { OnOk result (Draws svg.old svg.new (kind_text line.now kind)) }
+{
     match kind {
         Kind::Set { centre, section } => draw_order(svg, line, centre, "set", section),
         Kind::Unset { centre, section } => draw_order(svg, line, centre, "unset", section),
@@ -125,9 +156,11 @@ fn draw_frame(
     from: u8,
     to: u8,
     number: u32,
-) -> Result<(), AllocError> {
-    let from = line.centre_name(from).unwrap_or("?");
-    let to = line.centre_name(to).unwrap_or("?");
+) -> Result<(), AllocError>
+    ensures { OnOk result (Draws svg.old svg.new (frame_text (name_at line.now from) (name_at line.now to) number)) }
+{
+    let from = name_of(line, from);
+    let to = name_of(line, to);
     if from.len().saturating_add(to.len()) <= MOST_NAMES {
         write!(svg, "{from}→{to} frame {number}")
     } else {

@@ -1,12 +1,14 @@
 //! Draws the line: its tracks, sections, homes, and the borders between them.
 
 ghost use Rattle.std.specs.Prelude.{◌≡◌, ◌==◌, if◌then◌else◌, length, None, OnOk, option_and_then, option_map, Some};
-ghost use Rattle.std.specs.Prelude.{unwrap_or};
+ghost use Rattle.std.specs.Prelude.{codes, slice_get, unwrap_or};
 ghost use Rattle.rbc_line.specs.Views.{placed_section};
-ghost use Rattle.cli_picture.specs.Scale.{height};
-ghost use Rattle.cli_picture.specs.Homes.{longer, stretch_of};
-ghost use Rattle.cli_picture.specs.Texts.{centre_text, Draws, home_box, small_number, tint_of};
+ghost use Rattle.cli_picture.specs.Scale.{below, height};
+ghost use Rattle.cli_picture.specs.Homes.{home_text, homes_text, longer, stretch_of, track_head};
+ghost use Rattle.cli_picture.specs.Texts.{all_below, centre_text, down_line, Draws, home_box, small_number, tint_of};
+ghost use Rattle.cli_picture.specs.Texts.{track_text};
 
+use crate::legend::draw_words;
 use crate::scale::Scale;
 use rbc_line::{Line, Section};
 use rbc_place::{section_end, track_end};
@@ -20,25 +22,64 @@ const METRES_ROOM: u64 = 46;
 
 const LINE_ROOM: u64 = 4;
 
+// The left end of the units.
+const UNITS: u64 = 20;
+
 /// Draws the stretch of each home on each track, tinted in turn, with the names of the track and the home above it.
-pub fn draw_homes(svg: &mut String, scale: &Scale<'_>, axis: u64) -> Result<(), AllocError> {
+pub fn draw_homes(svg: &mut String, scale: &Scale<'_>, axis: u64) -> Result<(), AllocError>
+    ensures { OnOk result (Draws svg.old svg.new (all_below (homes_text scale.now axis)
+        (length scale.now.line.now.tracks))) }
+{
     for track in 0..scale.line.track_count() {
-        draw_track(svg, scale, track, axis)?;
-        for home in 0..scale.line.centre_count() {
-            draw_home(svg, scale, track, home, axis)?;
-        }
+        draw_track(svg, scale, track, 0, axis)?;
+        draw_homes_on(svg, scale, track, axis)?;
     }
     Ok(())
 }
 
-fn draw_track(svg: &mut String, scale: &Scale<'_>, track: u8, axis: u64) -> Result<(), AllocError> {
-    let name = scale.line.track_name(track).unwrap_or("?");
-    let x = scale.x(track, 0);
-    let y = axis.saturating_add(14);
+fn draw_homes_on(
+    svg: &mut String,
+    scale: &Scale<'_>,
+    track: u8,
+    axis: u64,
+) -> Result<(), AllocError>
+    ensures { OnOk result (Draws svg.old svg.new (all_below (home_text scale.now axis track)
+        (length scale.now.line.now.centres))) }
+{
+    for home in 0..scale.line.centre_count() {
+        draw_home(svg, scale, track, home, axis)?;
+    }
+    Ok(())
+}
+
+/// Writes the name of a track above the point at this many metres.
+fn draw_track(
+    svg: &mut String,
+    scale: &Scale<'_>,
+    track: u8,
+    metres: u32,
+    axis: u64,
+) -> Result<(), AllocError>
+    ensures { OnOk result (Draws svg.old svg.new (track_head scale.now axis track metres)) }
+{
+    let name = track_name(scale.line, track);
+    let x = scale.x(track, metres);
+    write_track(svg, name, x, axis.saturating_add(14))
+}
+
+fn write_track(svg: &mut String, name: &str, x: u64, y: u64) -> Result<(), AllocError>
+    ensures { OnOk result (Draws svg.old svg.new (track_text x y name.now)) }
+{
     writeln!(
         svg,
         "<text x=\"{x}\" y=\"{y}\" font-weight=\"bold\">{name}</text>"
     )
+}
+
+fn track_name(line: &Line, track: u8) -> &str
+    ensures { result.now ≡ unwrap_or (slice_get line.now.tracks track) (codes "?") }
+{
+    line.track_name(track).unwrap_or("?")
 }
 
 /// The sections of a home on a track are consecutive.
@@ -48,7 +89,9 @@ fn draw_home(
     track: u8,
     home: u8,
     axis: u64,
-) -> Result<(), AllocError> {
+) -> Result<(), AllocError>
+    ensures { OnOk result (Draws svg.old svg.new (home_text scale.now axis track home)) }
+{
     let Some((start, end)) = stretch_of(scale.line, track, home) else {
         return Ok(());
     };
@@ -145,16 +188,8 @@ pub fn draw_grid(svg: &mut String, scale: &Scale<'_>, axis: u64) -> Result<(), A
 
 /// Writes the units of the numbers above the events.
 fn draw_units(svg: &mut String, axis: u64) -> Result<(), AllocError> {
-    let y = axis.saturating_add(52);
-    writeln!(
-        svg,
-        "<text x=\"20\" y=\"{y}\" class=\"small\">section</text>"
-    )?;
-    let y = axis.saturating_add(68);
-    writeln!(
-        svg,
-        "<text x=\"20\" y=\"{y}\" class=\"small\">metres</text>"
-    )
+    draw_words(svg, UNITS, axis.saturating_add(52), "section")?;
+    draw_words(svg, UNITS, axis.saturating_add(68), "metres")
 }
 
 fn draw_numbers(
@@ -213,32 +248,38 @@ fn draw_small(svg: &mut String, x: u64, y: u64, number: u32) -> Result<(), Alloc
 
 /// Draws a line at the start of each section that is far enough from the one before, and one at the track's end.
 fn draw_lines(svg: &mut String, scale: &Scale<'_>, track: u8) -> Result<(), AllocError> {
-    let top = scale.top;
-    let bottom = scale.bottom();
     let mut next: u64 = 0;
     for s in 0..scale.line.section_count() {
         if let Some(section) = section_on(scale.line, track, s) {
             let x = scale.x(track, section.start);
             if x >= next {
-                writeln!(svg, "<path class=\"section\" d=\"M{x} {top}V{bottom}\"/>")?;
+                draw_down(svg, scale, "section", x)?;
                 next = x.saturating_add(LINE_ROOM);
             }
         }
     }
     let x = scale.x(track, track_end(scale.line, track));
-    writeln!(svg, "<path class=\"section\" d=\"M{x} {top}V{bottom}\"/>")
+    draw_down(svg, scale, "section", x)
+}
+
+/// Draws a line of this class from the upper to the lower edge of the events.
+fn draw_down(svg: &mut String, scale: &Scale<'_>, class: &str, x: u64) -> Result<(), AllocError>
+    ensures { OnOk result (Draws svg.old svg.new (down_line class.now x scale.now.top
+        (below scale.now (height scale.now)))) }
+{
+    let top = scale.top;
+    let bottom = scale.bottom();
+    writeln!(svg, "<path class=\"{class}\" d=\"M{x} {top}V{bottom}\"/>")
 }
 
 /// Draws a line at the start of a section if its home differs from that of the section before it.
 fn draw_borders(svg: &mut String, scale: &Scale<'_>, track: u8) -> Result<(), AllocError> {
-    let top = scale.top;
-    let bottom = scale.bottom();
     let mut before = None;
     for s in 0..scale.line.section_count() {
         if let Some(section) = section_on(scale.line, track, s) {
             if before.is_some() && before != Some(section.home) {
                 let x = scale.x(track, section.start);
-                writeln!(svg, "<path class=\"border\" d=\"M{x} {top}V{bottom}\"/>")?;
+                draw_down(svg, scale, "border", x)?;
             }
             before = Some(section.home);
         }

@@ -1,7 +1,14 @@
 //! Describes an event, with the messages of trains in it and the messages to trains.
 
-ghost use Rattle.std.specs.Prelude.{◌≡◌, option_map};
-ghost use Rattle.cli_picture.specs.Looks.{is_silent, order_of, reported};
+ghost use Rattle.std.specs.Prelude.{◌≡◌, false, IfErr, IfOk, IfSome, None, option_and_then, option_map, Some, true};
+ghost use Rattle.cli_picture.specs.Looks.{is_message, is_silent, order_of, reported};
+ghost use Rattle.cli_picture.specs.declared.run.Kind.TheVariants.{Message, NoMessage};
+ghost use Rattle.rbc_msgs.specs.TrainReading.{read_train};
+ghost use Rattle.rbc_msgs.specs.StepMessage.{position_of};
+ghost use Rattle.rbc_msgs.specs.TrainSpelling.{train_number};
+ghost use Rattle.rbc_place.specs.Places.{place_of};
+ghost use Rattle.rbc_spec.specs.Line.{train_number as train_number_of};
+ghost use Rattle.rbc_spec.specs.Place.{extent};
 
 use crate::run::{Border, Event, Kind, Report, track_of};
 use rbc_line::Line;
@@ -18,7 +25,11 @@ pub fn event_of(
     line: &Line,
     event: &WorldEvent,
     answer: &Answer,
-) -> Result<Event, AllocError> {
+) -> Result<Event, AllocError>
+    ensures silent { IfOk result (λ e. e.is_silent ≡ is_silent answer.now) }
+    ensures report { is_silent answer.now ≡ true → IfOk result (λ e. e.report ≡ None) }
+    ensures order { is_message event.now ≡ false → IfOk result (λ e. e.kind ≡ order_of event.now) }
+{
     let (kind, report) = kind_of(alloc, line, event)?;
     let is_silent = is_silent(answer);
     Ok(Event {
@@ -33,7 +44,9 @@ fn kind_of(
     alloc: Global,
     line: &Line,
     event: &WorldEvent,
-) -> Result<(Kind, Option<Report>), AllocError> {
+) -> Result<(Kind, Option<Report>), AllocError>
+    ensures { is_message event.now ≡ false → IfOk result (λ heard. heard ≡ (order_of event.now, None)) }
+{
     match event {
         WorldEvent::Train { bytes, .. } => heard_in(alloc, line, bytes),
         other => Ok((kind_of_other(other), None)),
@@ -62,11 +75,11 @@ fn kind_of_other(event: &WorldEvent) -> Kind
     }
 }
 
-fn heard_in(
-    alloc: Global,
-    line: &Line,
-    bytes: &[u8],
-) -> Result<(Kind, Option<Report>), AllocError> {
+fn heard_in(alloc: Global, line: &Line, bytes: &[u8]) -> Result<(Kind, Option<Report>), AllocError>
+    ensures message { IfOk result (λ heard. IfOk (read_train bytes.now)
+        (λ m. heard.0 ≡ Message (train_number m.body) m.nid_engine)) }
+    ensures other { IfOk result (λ heard. IfErr (read_train bytes.now) (λ _. heard ≡ (NoMessage, None))) }
+{
     match decode_train(alloc, bytes) {
         Ok(message) => Ok((kind_of_message(&message), report_in(line, &message))),
         Err(MsgFault::Memory) => Err(AllocError),
@@ -74,14 +87,20 @@ fn heard_in(
     }
 }
 
-fn kind_of_message(message: &TrainMsg) -> Kind {
+fn kind_of_message(message: &TrainMsg) -> Kind
+    ensures { result ≡ Message (train_number message.now.body) message.now.nid_engine }
+{
     Kind::Message {
         number: number_of_train(message.body()),
         nid_engine: message.nid_engine(),
     }
 }
 
-fn report_in(line: &Line, message: &TrainMsg) -> Option<Report> {
+fn report_in(line: &Line, message: &TrainMsg) -> Option<Report>
+    ensures train { IfSome result (λ report. train_number_of line.now message.now.nid_engine ≡ Some report.train) }
+    ensures place { IfSome result (λ report. Some (place_of report.place)
+        ≡ option_and_then (λ p. extent line.now (position_of p)) (reported message.now.body)) }
+{
     let train = line.train_number(message.nid_engine())?;
     let place = extent(line, position_in(message.body())?)?;
     Some(Report { train, place })

@@ -1,7 +1,8 @@
 //! Explains the colours and signs.
 
-ghost use Rattle.std.specs.Prelude.{OnOk};
-ghost use Rattle.cli_picture.specs.Texts.{Draws, small_text};
+ghost use Rattle.std.specs.Fmt.{decimal};
+ghost use Rattle.std.specs.Prelude.{◌++◌, codes, OnOk};
+ghost use Rattle.cli_picture.specs.Texts.{Draws, legend_box, small_text};
 
 use crate::marks::{Sign, shape_of};
 use crate::run::{Run, nid_engine_of};
@@ -77,12 +78,16 @@ fn shows(run: &Run<'_>, train: u8) -> bool {
 fn draw_train(svg: &mut String, line: &Line, train: u8, x: u64, y: u64) -> Result<(), AllocError> {
     let colour = colour_of(train);
     let dashes = dashes_of(train);
-    let nid_engine = nid_engine_of(line, train);
     writeln!(
         svg,
         "<g class=\"c{colour} d{dashes}\" transform=\"translate({x} {y})\"><rect class=\"bar\" y=\"-9\" width=\"22\" height=\"10\"/><path class=\"front\" d=\"M2 -7L20 -1\"/></g>"
     )?;
-    let x = x.saturating_add(28);
+    draw_engine(svg, nid_engine_of(line, train), x.saturating_add(28), y)
+}
+
+fn draw_engine(svg: &mut String, nid_engine: u32, x: u64, y: u64) -> Result<(), AllocError>
+    ensures { OnOk result (Draws svg.old svg.new (small_text x y (codes "train " ++ decimal nid_engine))) }
+{
     writeln!(
         svg,
         "<text x=\"{x}\" y=\"{y}\" class=\"small\">train {nid_engine}</text>"
@@ -107,14 +112,21 @@ fn draw_signs(svg: &mut String, y: u64) -> Result<(), AllocError> {
     )
 }
 
+/// Draws a box of this class, and its meaning.
+fn draw_look(svg: &mut String, class: &str, x: u64, y: u64, words: &str) -> Result<(), AllocError>
+    ensures { OnOk result (Draws svg.old svg.new (legend_box class.now x y words.now)) }
+{
+    write!(
+        svg,
+        "<rect class=\"{class}\" x=\"{x}\" y=\"{y}\" width=\"22\" height=\"10\" transform=\"translate(0 -9)\"/>"
+    )?;
+    draw_words(svg, x.saturating_add(28), y, words)
+}
+
 /// Draws the looks of kept or wished sections, of waiting starts, and of supervision.
 fn draw_looks(svg: &mut String, y: u64) -> Result<(), AllocError> {
     for (class, x, words) in &LOOKS {
-        write!(
-            svg,
-            "<rect class=\"{class}\" x=\"{x}\" y=\"{y}\" width=\"22\" height=\"10\" transform=\"translate(0 -9)\"/>"
-        )?;
-        draw_words(svg, x.saturating_add(28), y, words)?;
+        draw_look(svg, class, *x, y, words)?;
     }
     write!(
         svg,
@@ -143,7 +155,8 @@ fn draw_sign(svg: &mut String, sign: Sign, x: u64, y: u64, words: &str) -> Resul
     draw_words(svg, x.saturating_add(14), y, words)
 }
 
-fn draw_words(svg: &mut String, x: u64, y: u64, words: &str) -> Result<(), AllocError>
+/// Writes small words at a place.
+pub fn draw_words(svg: &mut String, x: u64, y: u64, words: &str) -> Result<(), AllocError>
     ensures { OnOk result (Draws svg.old svg.new (small_text x y words.now)) }
 {
     writeln!(

@@ -6,7 +6,11 @@
 //! Bodies are free. docs/FORMATS.md fixes the printed text and each exit status.
 #![tactic(auto)]
 
+ghost use Rattle.std.specs.Prelude.{◌≡◌, IfOk, is_some, nat_lt};
+ghost use Rattle.cli_picture.specs.Time.{after_place, first_place};
+
 mod bars;
+mod boxes;
 mod draw;
 mod events;
 mod fronts;
@@ -51,7 +55,9 @@ pub fn picture_over_time(
     line: &Line,
     printed: &str,
     part: &TimePart<'_>,
-) -> Result<Option<String>, Fault<'static>> {
+) -> Result<Option<String>, Fault<'static>>
+    ensures { IfOk result (λ svg. is_some svg ≡ nat_lt (first_place part.now) (after_place part.now)) }
+{
     match played_over_time(alloc, line, printed, part)? {
         Some(run) => Ok(Some(draw(alloc, &run)?)),
         None => Ok(None),

@@ -1,11 +1,16 @@
 //! Draws the requests to a train, and their results, as signs.
 
-ghost use Rattle.std.specs.Prelude.{◌≡◌, ◌/◌};
-ghost use Rattle.cli_picture.specs.Missions.{end_of, goes_on, last_kept_in, shape_of};
+ghost use Rattle.std.specs.Prelude.{◌≡◌, ◌/◌, OnOk};
+ghost use Rattle.cli_picture.specs.Missions.{answer_of, end_of, end_place, goes_on, is_dropped, is_same, last_kept_in};
+ghost use Rattle.cli_picture.specs.Missions.{shape_of};
+ghost use Rattle.cli_picture.specs.Requests.{answered_text, asked_text, cut_of, end_point, end_text, request_text};
+ghost use Rattle.cli_picture.specs.Requests.{requests_text, sign_of};
+ghost use Rattle.cli_picture.specs.Texts.{Draws};
 
 use crate::run::{Run, track_of};
 use crate::scale::Scale;
 use crate::style::colour_of;
+use rbc_line::Line;
 use rbc_place::{Place, section_end};
 use std::alloc::AllocError;
 use text_script::MissionView;
@@ -50,8 +55,7 @@ pub fn draw_marks(svg: &mut String, scale: &Scale<'_>, run: &Run<'_>) -> Result<
     for (event, what) in run.events.iter().enumerate() {
         for train in 0..run.line.train_count() {
             if run.wants(train) {
-                draw_requests(svg, scale, run, event, train)?;
-                draw_end(svg, scale, run, event, train)?;
+                draw_train(svg, scale, run, event, train)?;
             }
         }
         if let Some(border) = what.border {
@@ -69,8 +73,8 @@ pub fn draw_marks(svg: &mut String, scale: &Scale<'_>, run: &Run<'_>) -> Result<
     Ok(())
 }
 
-/// Draws the request to shorten that ends in an event, and the one that begins in it.
-fn draw_requests(
+/// Draws the requests to a train, and the end of its mission.
+fn draw_train(
     svg: &mut String,
     scale: &Scale<'_>,
     run: &Run<'_>,
@@ -78,31 +82,93 @@ fn draw_requests(
     train: u8,
 ) -> Result<(), AllocError> {
     let (before, after) = run.missions(event, train);
-    let was = last_kept_in(before);
-    let is = last_kept_in(after);
-    if was == is {
+    draw_requests(svg, scale, before, after, (train, event))?;
+    let end = end_place(before, after, run.report(event, train));
+    draw_end(svg, scale, end, (train, event))
+}
+
+/// Draws the request to shorten that ends in an event, and the one that begins in it. `at` has the train and the event.
+fn draw_requests(
+    svg: &mut String,
+    scale: &Scale<'_>,
+    before: Option<MissionView>,
+    after: Option<MissionView>,
+    at: (u8, usize),
+) -> Result<(), AllocError>
+    ensures { OnOk result (Draws svg.old svg.new (requests_text scale.now before after at.0 at.1)) }
+{
+    if is_same(last_kept_in(before), last_kept_in(after)) {
         return Ok(());
     }
-    let end = end_of(before);
-    if let Some((_, last_kept)) = was {
-        let sign = if end_of(after) < end {
-            Sign::Granted
-        } else {
-            Sign::Dropped
-        };
-        draw_request(svg, scale, sign, last_kept, end, (train, event))?;
+    draw_answered(svg, scale, before, after, at)?;
+    draw_asked(svg, scale, after, at)
+}
+
+/// Whether a request is the same as another one, or neither is there.
+fn is_same(request: Option<(u32, u16)>, other: Option<(u32, u16)>) -> bool
+    ensures { result ≡ is_same request other }
+{
+    match (request, other) {
+        (Some(request), Some(other)) => request.0 == other.0 && request.1 == other.1,
+        (None, None) => true,
+        _ => false,
     }
-    if let Some((_, last_kept)) = is {
-        draw_request(
-            svg,
-            scale,
-            Sign::Asked,
-            last_kept,
-            end_of(after),
-            (train, event),
-        )?;
+}
+
+/// Draws the end of the request that was pending before. `at` has the train and the event.
+fn draw_answered(
+    svg: &mut String,
+    scale: &Scale<'_>,
+    before: Option<MissionView>,
+    after: Option<MissionView>,
+    at: (u8, usize),
+) -> Result<(), AllocError>
+    ensures { OnOk result (Draws svg.old svg.new (answered_text scale.now before after at.0 at.1)) }
+{
+    let Some((_, last_kept)) = last_kept_in(before) else {
+        return Ok(());
+    };
+    let point = end_point(scale.line, last_kept, at);
+    draw_request(svg, scale, answer_of(before, after), point, end_of(before))
+}
+
+/// Draws the request that is pending now. `at` has the train and the event.
+fn draw_asked(
+    svg: &mut String,
+    scale: &Scale<'_>,
+    after: Option<MissionView>,
+    at: (u8, usize),
+) -> Result<(), AllocError>
+    ensures { OnOk result (Draws svg.old svg.new (asked_text scale.now after at.0 at.1)) }
+{
+    let Some((_, last_kept)) = last_kept_in(after) else {
+        return Ok(());
+    };
+    let point = end_point(scale.line, last_kept, at);
+    draw_request(svg, scale, Sign::Asked, point, end_of(after))
+}
+
+/// The end of a section, as a point of a train in an event.
+fn end_point(line: &Line, section: u16, at: (u8, usize)) -> Point
+    ensures { result ≡ end_point line.now section at.0 at.1 }
+{
+    Point {
+        train: at.0,
+        event: at.1,
+        track: track_of(line, section),
+        metres: section_end(line, section.into()),
     }
-    Ok(())
+}
+
+/// The sign of the end of a request: the train accepts it if its authority ends earlier from then on.
+fn answer_of(before: Option<MissionView>, after: Option<MissionView>) -> Sign
+    ensures { result ≡ answer_of before after }
+{
+    if end_of(after) < end_of(before) {
+        Sign::Granted
+    } else {
+        Sign::Dropped
+    }
 }
 
 /// The pending request: its stamp, and the last section to keep.
@@ -124,50 +190,73 @@ fn end_of(mission: Option<MissionView>) -> u32
     }
 }
 
-/// Draws a sign at the proposed end, and a line to it from the authority's end unless the request is dropped.
+/// Draws a sign at the proposed end, and a line to it from the authority's end unless the request is dropped. The
+/// authority ends before section `end`.
 fn draw_request(
     svg: &mut String,
     scale: &Scale<'_>,
     sign: Sign,
-    last_kept: u16,
+    point: Point,
     end: u32,
-    (train, event): (u8, usize),
-) -> Result<(), AllocError> {
-    let track = track_of(scale.line, last_kept);
-    let point = Point {
-        train,
-        event,
-        track,
-        metres: section_end(scale.line, last_kept.into()),
-    };
-    if !matches!(sign, Sign::Dropped) {
-        let colour = colour_of(train);
-        let x = scale.x(track, point.metres);
-        let y = scale.y(event);
-        let reach = scale.x(track, section_end(scale.line, end.saturating_sub(1)));
-        writeln!(
-            svg,
-            "<path class=\"cut c{colour}\" d=\"M{reach} {y}H{x}\"/>"
-        )?;
+) -> Result<(), AllocError>
+    ensures { OnOk result (Draws svg.old svg.new (request_text scale.now sign point end)) }
+{
+    if is_dropped(sign) {
+        return draw_sign(svg, scale, sign, point);
     }
+    draw_cut(svg, scale, point, end)?;
     draw_sign(svg, scale, sign, point)
 }
 
-/// Draws a square at the end of a train's mission.
+fn is_dropped(sign: Sign) -> bool
+    ensures { result ≡ is_dropped sign }
+{
+    matches!(sign, Sign::Dropped)
+}
+
+/// Draws a line to a point from the end of the authority of its train, which ends before section `end`.
+fn draw_cut(svg: &mut String, scale: &Scale<'_>, point: Point, end: u32) -> Result<(), AllocError>
+    ensures { OnOk result (Draws svg.old svg.new (cut_of scale.now point end)) }
+{
+    let colour = colour_of(point.train);
+    let x = scale.x(point.track, point.metres);
+    let y = scale.y(point.event);
+    let last = end.saturating_sub(1);
+    let reach = scale.x(point.track, section_end(scale.line, last));
+    writeln!(
+        svg,
+        "<path class=\"cut c{colour}\" d=\"M{reach} {y}H{x}\"/>"
+    )
+}
+
+/// Draws a square at the end of a train's mission, if it ends. `at` has the train and the event.
 fn draw_end(
     svg: &mut String,
     scale: &Scale<'_>,
-    run: &Run<'_>,
-    event: usize,
-    train: u8,
-) -> Result<(), AllocError> {
-    let (before, after) = run.missions(event, train);
-    match before {
-        Some(mission) if !mission.facts.is_ended && !goes_on(after) => {
-            let place = run.report(event, train).unwrap_or(mission.facts.place);
-            draw_sign(svg, scale, Sign::Ended, point_of(train, event, &place))
-        }
-        _ => Ok(()),
+    end: Option<Place>,
+    at: (u8, usize),
+) -> Result<(), AllocError>
+    ensures { OnOk result (Draws svg.old svg.new (end_text scale.now end at.0 at.1)) }
+{
+    match end {
+        Some(place) => draw_sign(svg, scale, Sign::Ended, point_of(at.0, at.1, &place)),
+        None => Ok(()),
+    }
+}
+
+/// The place at which a mission ends: the reported one, or else that of the mission before.
+fn end_place(
+    before: Option<MissionView>,
+    after: Option<MissionView>,
+    reported: Option<Place>,
+) -> Option<Place>
+    ensures { result ≡ end_place before after reported }
+{
+    let mission = before?;
+    if mission.facts.is_ended || goes_on(after) {
+        None
+    } else {
+        Some(reported.unwrap_or(mission.facts.place))
     }
 }
 
@@ -197,7 +286,9 @@ fn draw_sign(
     scale: &Scale<'_>,
     sign: Sign,
     point: Point,
-) -> Result<(), AllocError> {
+) -> Result<(), AllocError>
+    ensures { OnOk result (Draws svg.old svg.new (sign_of scale.now sign point)) }
+{
     let colour = colour_of(point.train);
     let x = scale.x(point.track, point.metres);
     let y = scale.y(point.event);

@@ -1,5 +1,8 @@
 //! Replays a print.
 
+ghost use Rattle.std.specs.Prelude.{◌≡◌, IfOk, is_some, nat_lt};
+ghost use Rattle.cli_picture.specs.Time.{after_place, first_place};
+
 use crate::heard::event_of;
 use crate::run::{Event, Kind, Run};
 use crate::time::{TimeAxis, TimePart};
@@ -36,7 +39,9 @@ pub fn played_over_time<'a>(
     line: &'a Line,
     printed: &str,
     part: &TimePart<'a>,
-) -> Result<Option<Run<'a>>, Fault<'static>> {
+) -> Result<Option<Run<'a>>, Fault<'static>>
+    ensures { IfOk result (λ run. is_some run ≡ nat_lt (first_place part.now) (after_place part.now)) }
+{
     let only = train_in(line, part.train)?;
     let Some((first, after)) = part.places() else {
         return Ok(None);

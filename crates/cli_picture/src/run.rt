@@ -1,8 +1,8 @@
 //! The data of a run in a diagram. Events are numbered from 0, from the first drawn one. Sections and tracks have the
 //! numbers of the line, and trains their place in the line file.
 
-ghost use Rattle.std.specs.Prelude.{◌≡◌, ◌==◌, ◌+◌, ◌-◌, ◌^◌, None, Some, if◌then◌else◌, is_some, length, min};
-ghost use Rattle.std.specs.Prelude.{option_and_then, option_map, slice_get, true, unwrap_or};
+ghost use Rattle.std.specs.Prelude.{◌≡◌, ◌==◌, ◌+◌, ◌-◌, ◌≤◌, ◌^◌, None, Some, if◌then◌else◌, is_some, length, min};
+ghost use Rattle.std.specs.Prelude.{nat_lt, option_and_then, option_map, slice_get, true, unwrap_or};
 ghost use Rattle.std.specs.Option.{option_map_or};
 ghost use Rattle.rbc_line.specs.Views.{listed_train, placed_section};
 
@@ -99,6 +99,13 @@ impl Run<'_> {
         }
     }
 
+    /// Whether an event is drawn.
+    pub fn has(&self, event: usize) -> bool
+        ensures { result ≡ nat_lt event (length self.now.events.items) }
+    {
+        event < self.events.len()
+    }
+
     /// The number of an event in the run, from 1.
     pub fn number(&self, event: usize) -> usize
         ensures { result ≡ min (2 ^ 64 - 1) (event + self.now.skipped + 1) }
@@ -132,7 +139,9 @@ impl Run<'_> {
         }
     }
 
-    fn mission_after(&self, event: usize, train: u8) -> Option<MissionView> {
+    fn mission_after(&self, event: usize, train: u8) -> Option<MissionView>
+        ensures { length self.now.events.items ≤ event → result ≡ None }
+    {
         if event < self.events.len() {
             self.missions.at(train.into(), event)?
         } else {

@@ -1,8 +1,10 @@
 //! Maps metres, events and times to places on the page, in pixels from its left and its upper edge.
 
-ghost use Rattle.std.specs.Prelude.{◌≡◌, ◌≤◌, ◌*◌, ◌^◌, if◌then◌else◌, IfSome, is_some};
-ghost use Rattle.cli_picture.specs.Scale.{below, height, metres_before, metres_to, place_in, rear_metres, room_of};
-ghost use Rattle.cli_picture.specs.Scale.{time_of};
+ghost use Rattle.std.specs.List.{find};
+ghost use Rattle.std.specs.Prelude.{◌≡◌, ◌≤◌, ◌+◌, ◌*◌, ◌^◌, if◌then◌else◌, is_some, unwrap_or};
+ghost use Rattle.cli_picture.specs.Scale.{below, front_of, has_room, height, metres_before, metres_to, middle_of};
+ghost use Rattle.cli_picture.specs.Scale.{nearest, place_in, rear_metres, rear_of, room_of};
+ghost use Rattle.cli_picture.specs.Scale.{until_of, x_of, y_of};
 
 use crate::time::TimeAxis;
 use rbc_line::Line;
@@ -24,6 +26,9 @@ const MOST_HEIGHT: u64 = 3400;
 /// The least height of an axis of time: it has room for its ticks.
 const LEAST_OF_TIME: u64 = 400;
 
+/// The steps from one labelled event to the next.
+static STRIDES: [usize; 13] = [1, 2, 5, 10, 20, 50, 100, 200, 500, 1000, 2000, 5000, 10_000];
+
 /// The place of each metre and each event.
 #[derive(Clone, Copy)]
 pub struct Scale<'a> {
@@ -39,21 +44,28 @@ impl<'a> Scale<'a> {
     /// The place of a point of a track, in metres from the start of the track. A point past the track's end is shown
     /// at the end.
     pub fn x(&self, track: u8, metres: u32) -> u64
-        ensures { result ≤ 1180 }
+        ensures bound { result ≤ 1180 }
+        ensures exact { result ≡ x_of self.now.line.now track metres }
     {
+        let gaps = u64::from(track) * GAP;
         let whole = self.metres_before(self.line.track_count());
-        let gaps = u64::from(track).saturating_mul(GAP);
         let place = share(self.room(), self.metres_to(track, metres), whole);
-        LEFT.saturating_add(gaps).saturating_add(place).min(RIGHT)
+        (LEFT + gaps + place).min(RIGHT)
     }
 
     /// The place of a train's safe front end.
-    pub fn front(&self, place: &Place) -> u64 {
+    pub fn front(&self, place: &Place) -> u64
+        ensures bound { result ≤ 1180 }
+        ensures exact { result ≡ front_of self.now.line.now place.now }
+    {
         self.x(place.track, place.front / 10)
     }
 
     /// The place of a train's safe rear end, or of its front if the rear end is not known.
-    pub fn rear(&self, place: &Place) -> u64 {
+    pub fn rear(&self, place: &Place) -> u64
+        ensures bound { result ≤ 1180 }
+        ensures exact { result ≡ rear_of self.now.line.now place.now place.now.rear }
+    {
         match place.rear {
             Some(rear) => self.x(place.track, metres_of(rear)),
             None => self.front(place),
@@ -120,7 +132,7 @@ impl<'a> Scale<'a> {
 
     /// The place of an event: that of its time, or the middle of its line.
     pub fn y(&self, event: usize) -> u64
-        ensures { IfSome self.now.axis (λ axis. result ≡ place_in self.now axis (time_of axis event)) }
+        ensures { result ≡ y_of self.now event }
     {
         match &self.axis {
             Some(axis) => self.at(axis, axis.time_ms(event)),
@@ -136,16 +148,18 @@ impl<'a> Scale<'a> {
     }
 
     /// The middle of an event's line. An event past the last is at the lower edge.
-    fn middle(&self, event: usize) -> u64 {
-        let halves = (event as u64).saturating_mul(2).saturating_add(1);
-        let whole = (self.event_count as u64).saturating_mul(2);
-        let place = share(self.height(), halves, whole).min(self.height());
-        self.top.saturating_add(place)
+    fn middle(&self, event: usize) -> u64
+        ensures { result ≡ middle_of self.now event }
+    {
+        let halves = twice(event) + 1;
+        let whole = twice(self.event_count);
+        self.top
+            .saturating_add(nearest(self.height(), halves, whole))
     }
 
     /// The end of a mark: at an event, or after the last one at the lower edge.
     pub fn until(&self, event: usize) -> u64
-        ensures { self.now.event_count ≤ event → result ≡ below self.now (height self.now) }
+        ensures { result ≡ until_of self.now event }
     {
         if event < self.event_count {
             self.y(event)
@@ -155,16 +169,31 @@ impl<'a> Scale<'a> {
     }
 
     /// The step from one labelled event to the next, so that there is room for each label: 1, 2, 5, 10 and so on.
-    pub fn stride(&self) -> usize {
-        let mut stride: usize = 1;
-        for factor in [2, 5, 10, 20, 50, 100, 200, 500, 1000, 2000, 5000, 10_000] {
-            let room = share(self.height(), stride as u64, self.event_count as u64);
-            if room >= 18 || self.event_count <= 1 {
-                return stride;
+    pub fn stride(&self) -> usize
+        ensures { result ≡ unwrap_or (find (has_room self.now) STRIDES) 10000 }
+    {
+        self.first_with_room(&STRIDES).unwrap_or(10_000)
+    }
+
+    /// The first of these steps with room for a label at each.
+    fn first_with_room(&self, strides: &[usize]) -> Option<usize>
+        ensures { result ≡ find (has_room self.now) strides.now }
+    {
+        for stride in strides {
+            if self.has_room(*stride) {
+                return Some(*stride);
             }
-            stride = factor;
         }
-        stride
+        None
+    }
+
+    /// Whether there is room for a label at each of these steps.
+    fn has_room(&self, stride: usize) -> bool
+        ensures { result ≡ has_room self.now stride }
+    {
+        let count = self.event_count as u64;
+        let room = nearest(self.height(), u128::from(stride as u64), u128::from(count));
+        room >= 18 || self.event_count <= 1
     }
 }
 
@@ -176,10 +205,32 @@ fn metres_of(rear: i32) -> u32
 }
 
 /// The share of `part` of `whole` in a room, rounded to the nearest. If the whole is 0, the share is the whole room.
-fn share(room: u64, part: u64, whole: u64) -> u64 {
-    let doubled = room
-        .saturating_mul(part)
-        .saturating_mul(2)
-        .saturating_add(whole);
-    doubled.checked_div(whole.saturating_mul(2)).unwrap_or(room)
+fn share(room: u64, part: u64, whole: u64) -> u64
+    requires { room ≤ 3400 }
+    ensures bound { result ≤ room }
+    ensures exact { result ≡ nearest room part whole }
+{
+    nearest(room, u128::from(part), u128::from(whole))
+}
+
+fn twice(count: usize) -> u128
+    ensures bound { result + 2 ≤ 2 ^ 65 }
+    ensures exact { result ≡ count * 2 }
+{
+    u128::from(count as u64) * 2
+}
+
+// The share of a part of the whole. A part that is longer than the whole has the whole room.
+fn nearest(room: u64, part: u128, whole: u128) -> u64
+    requires room { room ≤ 3400 }
+    requires part { part ≤ 2 ^ 65 }
+    requires whole { whole ≤ 2 ^ 65 }
+    ensures bound { result ≤ room }
+    ensures exact { result ≡ nearest room part whole }
+{
+    if whole == 0 {
+        return room;
+    }
+    let part = part.min(whole);
+    ((u128::from(room) * part * 2 + whole) / (whole * 2)) as u64
 }

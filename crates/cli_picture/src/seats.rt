@@ -1,14 +1,21 @@
 //! Draws the supervisor of each train, and the starts of mission that wait for the right to supervise it.
 
-ghost use Rattle.std.specs.Prelude.{◌≡◌, option_and_then};
-ghost use Rattle.cli_picture.specs.Missions.{centre_of, way_at};
+ghost use Rattle.std.specs.Prelude.{◌≡◌, IfSome, None, OnOk, option_and_then, option_map, Some, ℕ};
+ghost use Rattle.rbc_place.specs.declared.place.Place.{Place as Spot};
+ghost use Rattle.cli_picture.specs.Rings.{begin_ring, end_ring, old_class, old_words, ring_text};
+ghost use Rattle.cli_picture.specs.Scale.{front_of, y_of};
+ghost use Rattle.cli_picture.specs.Texts.{Draws};
+ghost use Rattle.text_script.specs.Print.Rows.{name_at};
+ghost use Rattle.cli_picture.specs.Missions.{centre_of, is_centre, new_seat, way_at};
 
+use crate::boxes::{Look, Stay, draw_box};
 use crate::fronts::has_left;
 use crate::run::Run;
 use crate::scale::Scale;
 use crate::style::colour_of;
 use rbc_place::Place;
 use std::alloc::AllocError;
+use text_script::print::name_of;
 use text_script::{MissionView, Supervisor};
 
 pub fn draw_seats(svg: &mut String, scale: &Scale<'_>, run: &Run<'_>) -> Result<(), AllocError> {
@@ -61,41 +68,101 @@ fn draw_rings(
 ) -> Result<(), AllocError> {
     for e in 0..run.events.len() {
         let (before, after) = run.missions(e, train);
-        if let Some(mission) = after {
-            let centre = centre_of(&mission);
-            if e == 0 || centre != centre_in(before) {
-                draw_ring(svg, scale, run, (train, e), &mission.facts.place, centre)?;
-            }
+        if let Some((centre, place)) = new_seat(before, after, e) {
+            let is_old = has_left(run, e, train, &place);
+            draw_ring(svg, scale, (train, e), &place, Ring { centre, is_old })?;
         }
     }
     Ok(())
 }
 
-// The ring is dashed, and has words, if the mission has an older place than the train has reported.
+/// The ring of a centre, and whether the mission has an older place than the train has reported.
+#[derive(Clone, Copy)]
+struct Ring {
+    centre: u8,
+    is_old: bool,
+}
+
+/// The centre that begins to supervise a mission in an event, and the place of the mission. In event 0 it is the centre
+/// that supervises the mission then.
+fn new_seat(
+    before: Option<MissionView>,
+    after: Option<MissionView>,
+    event: usize,
+) -> Option<(u8, Place)>
+    ensures { result ≡ new_seat before after event }
+{
+    let mission = after?;
+    let centre = centre_of(&mission)?;
+    if event == 0 || !is_centre(centre, centre_in(before)) {
+        Some((centre, mission.facts.place))
+    } else {
+        None
+    }
+}
+
+fn is_centre(centre: u8, other: Option<u8>) -> bool
+    ensures { result ≡ is_centre centre other }
+{
+    match other {
+        Some(other) => centre == other,
+        None => false,
+    }
+}
+
+// The ring is dashed, and has words, if the mission has an older place than the train has reported. `at` has the train
+// and the event.
 fn draw_ring(
     svg: &mut String,
     scale: &Scale<'_>,
-    run: &Run<'_>,
-    (train, event): (u8, usize),
+    at: (u8, usize),
     place: &Place,
-    centre: Option<u8>,
-) -> Result<(), AllocError> {
-    let Some(centre) = centre else {
-        return Ok(());
-    };
-    let colour = colour_of(train);
+    ring: Ring,
+) -> Result<(), AllocError>
+    ensures { OnOk result (Draws svg.old svg.new (ring_text at.0 ring.is_old
+        (front_of scale.now.line.now place.now) (y_of scale.now at.1) (name_at scale.now.line.now ring.centre))) }
+{
     let x = scale.front(place);
-    let y = scale.y(event);
-    let name = scale.line.centre_name(centre).unwrap_or("?");
-    let (old, words) = if has_left(run, event, train, place) {
-        (" old", ": place in its mission")
-    } else {
-        ("", "")
-    };
+    let y = scale.y(at.1);
+    let name = name_of(scale.line, ring.centre);
+    begin_ring(svg, at.0, ring.is_old, x, y)?;
+    end_ring(svg, x, y, name, ring.is_old)
+}
+
+// Draws a circle in a train's colour.
+fn begin_ring(svg: &mut String, train: u8, is_old: bool, x: u64, y: u64) -> Result<(), AllocError>
+    ensures { OnOk result (Draws svg.old svg.new (begin_ring train is_old x y)) }
+{
+    let old = old_class(is_old);
+    let colour = colour_of(train);
+    write!(
+        svg,
+        "<g class=\"seat{old} c{colour}\"><circle cx=\"{x}\" cy=\"{y}\" r=\"4\"/>"
+    )
+}
+
+// Writes the name of a centre right of its ring.
+fn end_ring(svg: &mut String, x: u64, y: u64, name: &str, is_old: bool) -> Result<(), AllocError>
+    ensures { OnOk result (Draws svg.old svg.new (end_ring x y name.now is_old)) }
+{
+    let words = old_words(is_old);
     writeln!(
         svg,
-        "<g class=\"seat{old} c{colour}\"><circle cx=\"{x}\" cy=\"{y}\" r=\"4\"/><text x=\"{x}\" y=\"{y}\" dx=\"7\" dy=\"4\">{name}{words}</text></g>"
+        "<text x=\"{x}\" y=\"{y}\" dx=\"7\" dy=\"4\">{name}{words}</text></g>"
     )
+}
+
+// The class and the words of a ring at an older place.
+fn old_class(is_old: bool) -> &'static str
+    ensures { result.now ≡ old_class is_old }
+{
+    if is_old { " old" } else { "" }
+}
+
+fn old_words(is_old: bool) -> &'static str
+    ensures { result.now ≡ old_words is_old }
+{
+    if is_old { ": place in its mission" } else { "" }
 }
 
 /// Draws a box while a mission is on the way from one centre to the next. It is hollow if the mission has an older
@@ -112,11 +179,22 @@ fn draw_ways(
         let place = way_in(after);
         if let Some((since, place)) = ended(way, place) {
             let look = if has_left(run, e, train, &place) {
-                OLD_WAY
+                Look::OldWay
             } else {
-                WAY
+                Look::Way
             };
-            draw_box(svg, scale, train, look, (since, e), &place)?;
+            let until = e;
+            draw_box(
+                svg,
+                scale,
+                look,
+                Stay {
+                    train,
+                    since,
+                    until,
+                },
+                &place,
+            )?;
         }
         way = followed(way, place, e);
     }
@@ -138,24 +216,28 @@ fn draw_waits(
                 Some(next) => next.since,
                 None => run.events.len(),
             };
-            draw_box(svg, scale, train, WAIT, (wait.since, until), &place)?;
+            let since = wait.since;
+            draw_box(
+                svg,
+                scale,
+                Look::Wait,
+                Stay {
+                    train,
+                    since,
+                    until,
+                },
+                &place,
+            )?;
         }
     }
     Ok(())
 }
 
-// The classes and the descriptions of the boxes.
-const WAY: (&str, &str) = ("way", "on the way from one centre to the next");
-
-const OLD_WAY: (&str, &str) = (
-    "way old",
-    "on the way from one centre to the next, at the place in its mission",
-);
-
-const WAIT: (&str, &str) = ("wait", "a start of mission that waits");
-
 /// The mark that has lasted at a place since an event, if it is not there any more.
-fn ended(was: Option<(usize, Place)>, place: Option<Place>) -> Option<(usize, Place)> {
+fn ended(was: Option<(usize, Place)>, place: Option<Place>) -> Option<(usize, Place)>
+    ensures lasted { IfSome result (λ mark. was ≡ Some mark) }
+    ensures gone { place ≡ None → result ≡ was }
+{
     let mark = was?;
     if place == Some(mark.1) {
         None
@@ -169,30 +251,13 @@ fn followed(
     was: Option<(usize, Place)>,
     place: Option<Place>,
     event: usize,
-) -> Option<(usize, Place)> {
+) -> Option<(usize, Place)>
+    ensures nowhere { place ≡ None → result ≡ None }
+    ensures begins { was ≡ None → result ≡ option_map {U = ℕ × Spot} (λ p. (event, p)) place }
+{
     let place = place?;
     match was {
         Some(mark) if mark.1 == place => Some(mark),
         _ => Some((event, place)),
     }
-}
-
-/// Draws a box at a place, from an event to another one.
-fn draw_box(
-    svg: &mut String,
-    scale: &Scale<'_>,
-    train: u8,
-    (class, words): (&str, &str),
-    (since, until): (usize, usize),
-    place: &Place,
-) -> Result<(), AllocError> {
-    let colour = colour_of(train);
-    let right = scale.front(place);
-    let left = scale.rear(place);
-    let y = scale.y(since);
-    let bottom = scale.until(until);
-    writeln!(
-        svg,
-        "<path class=\"{class} c{colour}\" d=\"M{right} {y}V{bottom}H{left}V{y}z\"><title>{words}</title></path>"
-    )
 }

@@ -1,8 +1,8 @@
 //! Draws the axis of time: its ticks with their times, and the descriptions of events as far as there is room.
 
-use crate::events::draw_words;
+use crate::events::{draw_line, draw_words};
 use crate::run::Run;
-use crate::scale::{LEFT, RIGHT, Scale};
+use crate::scale::Scale;
 use crate::time::{DAY_MS, TimeAxis};
 use std::alloc::{AllocError, Global};
 use text_page::Utc;
@@ -35,7 +35,7 @@ fn draw_tick(
     time_ms: u64,
 ) -> Result<(), AllocError> {
     let y = scale.at(axis, time_ms);
-    writeln!(svg, "<path class=\"event\" d=\"M{LEFT} {y}H{RIGHT}\"/>")?;
+    draw_line(svg, y)?;
     let time = Utc(time_ms);
     let text = format!(in alloc; "{time}")?;
     let label = label_of(text.as_str(), axis.step_ms);

@@ -1,0 +1,6 @@
+use Rattle.std.proofs.Common.{append_assoc, rules}
+use Rattle.std.proofs.lemmas.Result.{IfOk-equal}
+use Rattle.cli_picture.proofs.seats.draw_ring.Goals as goal
+
+pub returns : goal.returns
+returns c = search (rules, IfOk-equal, append_assoc)
