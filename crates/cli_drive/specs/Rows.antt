@@ -26,7 +26,7 @@ centre_followed line (Some centre) =
 abbrev pub followed_name : Line → Train → List ℕ
 followed_name line train = centre_followed line train.driver.follows
 
--- The line of a train at a second: its NID_ENGINE, its track, the metres to its front end and to the end of its
+-- The line of a train at a second. It has its NID_ENGINE, its track, the metres to its front end and to the end of its
 -- authority, and the centre that it follows.
 abbrev pub train_row : Line → ℕ → Train → ℕ → List ℕ
 train_row line second train limit =

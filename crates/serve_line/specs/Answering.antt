@@ -13,7 +13,7 @@ abbrev pub next_after : Sent → Next
 next_after Whole = Listen
 next_after Short = End
 
--- The centres stop only if the line says so.
+-- The centres stop only if the line bids that.
 abbrev pub IsNextAfter : Line → List ℕ → Next → Type 0
 IsNextAfter line row Stop = Bids line row command.Stop
 IsNextAfter line row StopNow = Bids line row command.StopNow

@@ -39,9 +39,9 @@ pub record IsNoted (used : ℕ × ℕ × ℕ) (old new : Life) : Type 0 where
   pub clock : new.clock.noted ≡ max old.clock.noted (mark_of used.1 1073741823)
   pub link : new.link.noted ≡ max old.link.noted (mark_of used.2 65536)
 
--- ## The rows after an answer to `show`
+-- ## The lines after those of `show`
 
--- a count of the most that it may be, at the end of a row
+-- a count and its greatest value, at the end of a line
 abbrev pub used_up : ℕ → ℕ → List ℕ
 used_up used most = decimal used ++ (codes " of " ++ (decimal most ++ codes "\n"))
 

@@ -11,7 +11,7 @@ use Rattle.serve_control.specs.Prints.{IsPrintOfLogs}
 abbrev pub AddsPrint : Line → List LogValue → Option (List ℕ) → Option (List ℕ) → Type 0
 AddsPrint line logs before after = (text : List ℕ) × IsPrintOfLogs line logs text × Appends before after text
 
--- the same of the logs of so many centres, whose entries are these receipts
+-- the same of logs of this number of centres, whose entries are these receipts
 abbrev pub AddsGathered : ℕ → List ShareValue → Line → Option (List ℕ) → Option (List ℕ) → Type 0
 AddsGathered nodes shares line before after =
     (logs : List LogValue) × Gathers nodes shares (Ok logs) × AddsPrint line logs before after

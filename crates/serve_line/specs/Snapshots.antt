@@ -37,7 +37,8 @@ is_given_in line v s t = has (λ m. within (run_of m.hand) s) (option_and_then (
 -- a section, as its home shows it
 abbrev pub IsViewIn : Line → Snapshot → ℕ → SectionView → Type 0
 IsViewIn line v s view =
-    (mark_shown view.mark ≡ mark_by (page_in v s).entry (is_given_in line v s)) × (view.is_wished ≡ (page_in v s).is_wished)
+    (mark_shown view.mark ≡ mark_by (page_in v s).entry (is_given_in line v s))
+    × (view.is_wished ≡ (page_in v s).is_wished)
 
 -- ## A look at a centre
 
@@ -67,7 +68,8 @@ HasMission line k i (Some before) (Some after) =
 
 -- the pages of the sections and the missions of the trains after a look at centre k
 pub record HasCentre (line : Line) (k : Centre) (old new : Snapshot) : Type 0 where
-  pub pages : (s : ℕ) → s < length line.sections → HasPage line k s (slice_get old.pages.items s) (slice_get new.pages.items s)
+  pub pages : (s : ℕ) → s < length line.sections
+      → HasPage line k s (slice_get old.pages.items s) (slice_get new.pages.items s)
   pub missions : (i : ℕ) → i < length line.trains
       → HasMission line k i (slice_get old.missions.items i) (slice_get new.missions.items i)
 

@@ -1,4 +1,5 @@
-ghost use Rattle.std.specs.Prelude.{◌<◌, ◌==◌, ◌≡◌, ◌≢◌, ℕ, [], IfOk, IfSome, length, map, not, replicate, slice_get, slice_set};
+ghost use Rattle.std.specs.Prelude.{◌<◌, ◌==◌, ◌≡◌, ◌≢◌, ℕ, [], IfOk, IfSome, length, map};
+ghost use Rattle.std.specs.Prelude.{not, replicate, slice_get, slice_set};
 ghost use Rattle.serve_line.specs.Marks.{TakesMarks, with_silent};
 ghost use Rattle.serve_line.specs.Snapshots.{IsViewIn};
 ghost use Rattle.serve_line.specs.Directions.{directions_of};

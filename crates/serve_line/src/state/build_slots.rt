@@ -3,7 +3,8 @@
 ghost use Rattle.std.specs.List.{range_with_len};
 ghost use Rattle.std.specs.Option.{option_map_or};
 ghost use Rattle.std.specs.Prelude.{[], ◌++◌, ◌∷◌, ◌≡◌, ◌+◌, IfOk, false, length, map, vec_len};
-ghost use Rattle.serve_line.specs.Building.{control_places, control_seats, peer_at, place_of, seats_at, seats_of, slot_places};
+ghost use Rattle.serve_line.specs.Building.{control_places, control_seats, peer_at, place_of, seats_at, seats_of};
+ghost use Rattle.serve_line.specs.Building.{slot_places};
 
 use crate::state::endpoints::{Listening, ListeningAt};
 use crate::state::limits::{CONTROLS, SPARE};

@@ -1,4 +1,5 @@
-ghost use Rattle.std.specs.Prelude.{◌++◌, ◌<◌, ◌≡◌, ◌≤◌, false, IfNone, IfSome, IsTrue, length, slice_get, true, vec_len};
+ghost use Rattle.std.specs.Prelude.{◌++◌, ◌<◌, ◌≡◌, ◌≤◌, false, IfNone};
+ghost use Rattle.std.specs.Prelude.{IfSome, IsTrue, length, slice_get, true, vec_len};
 ghost use Rattle.serve_line.specs.Slots.{IsSlotOf};
 
 use crate::state::limits::MOST_TOLD;

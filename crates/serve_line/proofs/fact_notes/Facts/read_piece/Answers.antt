@@ -7,9 +7,10 @@ pub returns : goal.returns
 returns g c =
     let log = c.log.result.now in
     let piece =
-    c.next_of-piece.ensures ∙ ap (λ entries. take 256 (drop c.args.read entries)) c.entries.ensures.value in (
+    c.next_of-piece.ensures ∙ ap (λ es. take 256 (drop c.args.read es)) c.entries.ensures.value in (
       log,
       search rules,
       ap length piece,
-      subst (λ entries. Adds (flat_map facts_of entries) c.args.self.now c.add_piece.new.self) piece c.add_piece.ensures,
+      subst (λ es. Adds (flat_map facts_of es) c.args.self.now c.add_piece.new.self) piece
+          c.add_piece.ensures,
     )
