@@ -25,7 +25,8 @@ at_ok (Err why) a f = tt
 
 -- the text of `show`, if it was opened; else that a journal can't be written
 pub show_is : {T : Type 0} (line : Line) (shows_life : Bool)
-    (opened : Option T) (bytes : T → List ℕ) (print text : List ℕ) → IsShowText line shows_life print → IfSome opened (λ o. bytes o ≡ print)
+    (opened : Option T) (bytes : T → List ℕ) (print text : List ℕ) → IsShowText line shows_life print
+    → IfSome opened (λ o. bytes o ≡ print)
     → text ≡ option_map_or bytes opened journal_fault → IsShowAnswer line shows_life text
 show_is line shows_life None bytes print text is same put = inl put
 show_is line shows_life (Some o) bytes print text is same put =
