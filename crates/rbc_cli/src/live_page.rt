@@ -13,7 +13,8 @@ use cli_drive::trains;
 use cli_drive::trains::Observer;
 use serve_journal::SystemFile;
 use serve_line::{
-    Endpoints, NoNotes, NoteForm, Record, ServeOptions, StderrNotes, TruePlace, TruePlaces, serve,
+    Endpoints, NoNotes, NoteForm, Record, ServeFault, ServeOptions, StderrNotes, TruePlace,
+    TruePlaces, serve,
 };
 use std::alloc::AllocError;
 use std::fs::File;
@@ -76,23 +77,56 @@ pub fn run_live_page<
         Ok(given) => given,
         Err(fault) => return report(&fault, out, err),
     };
-    let port = match first_after(page, given.line.centre_count()) {
-        Ok(port) => port,
-        Err(most) => return report_port(err, "--page", page, most),
+    match first_after(page, given.line.centre_count()) {
+        Ok(first) => run_at(rt, &given, Ports { page, first }, words, out, err),
+        Err(most) => report_port(err, "--page", page, most),
+    }
+}
+
+/// The ports of the page and of the first centre.
+#[derive(Clone, Copy)]
+struct Ports {
+    page: u16,
+    first: u16,
+}
+
+// Opens the ports, shows the address of the page, and runs the centres and the trains.
+fn run_at<
+    R: Threads
+        + Wait
+        + Sync
+        + Net<Stream = TcpStream, Listener = TcpListener>
+        + Clock
+        + Files<File = File>
+        + Eprint
+        + AllocGlobal,
+    O: Write,
+    E: Write,
+>(rt: &R, given: &LineFile, ports: Ports, words: &TrainsWords, out: &mut O, err: &mut E) -> u8 {
+    let endpoints = match endpoints_at(rt, given, ports) {
+        Ok(endpoints) => endpoints,
+        Err(fault) => return refused(&fault, out, err),
     };
+    if writeln!(err, "page: http://127.0.0.1:{}/", ports.page).is_err() {
+        return 6;
+    }
+    let done = run_all(rt, given, endpoints, ports.first, words, out);
+    ended(done, out, err)
+}
+
+// Opens the ports. The reason of a refusal is written.
+fn endpoints_at<
+    R: Net<Stream = TcpStream, Listener = TcpListener>
+        + Clock
+        + Files<File = File>
+        + Eprint
+        + AllocGlobal,
+>(rt: &R, given: &LineFile, ports: Ports) -> Result<Endpoints, ServeFault> {
     let notes = StderrNotes {
         rt,
         form: NoteForm::TEXT,
     };
-    let endpoints = match opened(rt, &given, port, &served_at(page), &notes) {
-        Ok(endpoints) => endpoints,
-        Err(fault) => return refused(&fault, out, err),
-    };
-    if writeln!(err, "page: http://127.0.0.1:{page}/").is_err() {
-        return 6;
-    }
-    let done = run_all(rt, &given, endpoints, port, words, out);
-    ended(done, out, err)
+    opened(rt, given, ports.first, &served_at(ports.page), &notes)
 }
 
 /// Shows the true places of trains on the page.

@@ -1,5 +1,9 @@
 //! Locks and begins the journals of a line's centres, as files in a folder.
 
+ghost use Rattle.std.specs.Prelude.{[], ◌++◌, ◌∷◌, ◌≡◌, IfOk, string_bytes};
+ghost use Rattle.text_journal.specs.Journal.{first_line, V2};
+ghost use Rattle.rbc_cli.specs.Starts.{may_start};
+
 mod place;
 
 use crate::record::place::{Place, bytes_of, place_of, start_of};
@@ -8,6 +12,7 @@ use cli_commands::line_file::LineFile;
 use cli_commands::words::{JournalStart, JournalWords};
 use serve_journal::{JournalFile, OpenFault, SystemFile, make_journal};
 use serve_line::{About, Kind, Notes, Record, ServeFault};
+use std::alloc::{AllocError, Global};
 use std::fs;
 use std::fs::File;
 use std::io::ErrorKind;
@@ -70,8 +75,7 @@ impl Locked<'_> {
             let Some(place) = places.pop() else {
                 break;
             };
-            let mut first = first_line(rt.alloc(), &given.line, centre)?;
-            first.push('\n')?;
+            let first = first_row(rt.alloc(), given, centre)?;
             files.push(begun_one(rt, place, first.as_str(), words.is_synced, notes)?)?;
         }
         if words.is_synced {
@@ -79,6 +83,15 @@ impl Locked<'_> {
         }
         Ok(Record { files, entries })
     }
+}
+
+// The first line of a journal, with its line feed.
+fn first_row(alloc: Global, given: &LineFile, centre: u8) -> Result<String, AllocError>
+    ensures { IfOk result (λ row. string_bytes row ≡ first_line V2 given.now.line centre [] ++ 10 ∷ []) }
+{
+    let mut first = first_line(alloc, &given.line, centre)?;
+    first.push('\n')?;
+    Ok(first)
 }
 
 // The events of the journals, in the order in which they happened. If they are not resumed, a journal has none.
@@ -99,13 +112,21 @@ fn entries_of<R: AllocGlobal, N: Notes>(
         if start == JournalStart::Resume {
             note_torn(place, bytes.len().saturating_sub(length), notes);
             place.length = length;
-        } else if !entries.is_empty() {
+        }
+        if !may_start(start, entries.len()) {
             note_old(places, centre as usize, start, notes);
             return Err(ServeFault::Journal);
         }
         journals.push(entries)?;
     }
     Ok(in_order(rt.alloc(), journals)?)
+}
+
+// Whether centres may start so with a journal that has this many events.
+fn may_start(start: JournalStart, count: usize) -> bool
+    ensures { result ≡ may_start start count }
+{
+    start == JournalStart::Resume || count == 0
 }
 
 // Notes that the journal of this number can't be begun, since it has events.

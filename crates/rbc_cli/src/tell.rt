@@ -1,7 +1,9 @@
 //! Sends lines to the interlocking's endpoint of running centres.
 
-ghost use Rattle.std.specs.Prelude.{IfSome};
+ghost use Rattle.std.specs.Prelude.{◌≡◌, IfSome, map};
 ghost use Rattle.rbc_cli.specs.Addresses.{IsAddress};
+ghost use Rattle.rbc_cli.specs.Endings.{IsTold};
+ghost use Rattle.rbc_cli.specs.Stops.{ends_with_stop};
 
 use crate::train::fault_of;
 use cli_commands::disk::Disk;
@@ -71,7 +73,19 @@ pub fn run_tell<R: Net<Stream = TcpStream> + Files<File = File> + AllocGlobal, O
     out: &mut O,
     err: &mut E,
 ) -> u8 {
-    let written = match tell(rt, arguments, words, out) {
+    let told = tell(rt, arguments, words, out);
+    told_status(told, out, err)
+}
+
+// The exit status: that of the verdict, or that of the fault, which is reported.
+fn told_status<O: Write, E: Write>(
+    told: Result<Verdict, TellFault<'_>>,
+    out: &mut O,
+    err: &mut E,
+) -> u8
+    ensures { IsTold told.entry result }
+{
+    let written = match told {
         Ok(Verdict::Short) => return report(&Fault::Socket, out, err),
         Ok(verdict) => return verdict.status(),
         Err(TellFault::Run(fault)) => return report(&fault, out, err),
@@ -124,11 +138,7 @@ fn tell_lines<'a, R: Net<Stream = TcpStream> + AllocGlobal, O: Write>(
         Ok(request) => request,
         Err(fault) => return Err(TellFault::Lines(fault)),
     };
-    let stops = match lines.last() {
-        Some(line) => is_stop(line),
-        None => false,
-    };
-    let waiting = if stops {
+    let waiting = if ends_with_stop(lines) {
         Some(connect(rt, callee)?)
     } else {
         None
@@ -140,6 +150,16 @@ fn tell_lines<'a, R: Net<Stream = TcpStream> + AllocGlobal, O: Write>(
         see_off(&mut waiting)?;
     }
     Ok(judge(rt.alloc(), lines, &answers)?)
+}
+
+// Whether the last of the lines stops the centres.
+fn ends_with_stop(lines: &[&str]) -> bool
+    ensures { result ≡ ends_with_stop (map (λ line. line.now) lines.now) }
+{
+    match lines.last() {
+        Some(line) => is_stop(line),
+        None => false,
+    }
 }
 
 // Sends the lines, and nothing more: the endpoint ends the connection after the last answer.
