@@ -1,6 +1,8 @@
 """The lines of function bodies under an `ensures`: python3 .ci/stated.py [FLOOR]
 
 A body counts if its function has an `ensures`, or if it is a method of a trait of this tree whose declaration has one.
+The same holds for `read`, `write` and `flush` of std's `Read` and `Write`. A `fmt` of `Display` counts if its impl names
+the bytes of the text (`ghost output`), and a `from` if its impl names the value (`ghost from_gives`).
 The lines between the braces are counted. The crates of tests and of laws are left out. `.ci/stated` has the least share
 of each floor of the crates, in percent: `.ci/names` refuses less, and `.ci/names --write` raises it to the share that
 is reached. With a FLOOR, as `serve`, each function without an `ensures` is listed, the longest first.
@@ -15,6 +17,14 @@ from tables import TOP, read
 LEAST = ".ci/stated"
 FLOORS = ("cli", "rbc", "serve", "text", "train")
 FUNCTION = re.compile(r"(?m)^([ \t]*)(?:pub(?:\([a-z]+\))? )?(?:const )?(?:unsafe )?fn (\w+)")
+# Methods of traits of std whose declaration has an `ensures`, and the ghost item of an impl without which that says nothing.
+OF_STD = {
+    ("Read", "read"): "",
+    ("Write", "write"): "",
+    ("Write", "flush"): "",
+    ("Display", "fmt"): "ghost output",
+    ("From", "from"): "ghost from_gives",
+}
 BLOCK = re.compile(r"(?m)^(?:pub(?:\([a-z]+\))? )?(impl|trait)\b([^{;]*)")
 
 
@@ -26,17 +36,19 @@ def generic_free(head):
 
 
 def trait_at(text, at):
-    """The trait of the block that a method is in, and whether the block declares it."""
+    """The trait of the block that a method is in, whether the block declares it, and the text of the block."""
     found = None
     for it in BLOCK.finditer(text, 0, at):
         found = it
     if not found or re.search(r"(?m)^}", text[found.end() : at]):
-        return None, False
+        return None, False, ""
     head = generic_free(found[2].replace("->", ""))
     if found[1] == "trait":
-        return head.split(":")[0].split()[0], True
+        return head.split(":")[0].split()[0], True, ""
     name, _, rest = head.partition(" for ")
-    return (name.split()[-1].split("::")[-1], False) if rest else (None, False)
+    end = re.search(r"(?m)^}", text[found.end() :])
+    inside = text[found.end() :][: end.start() if end else None]
+    return (name.split()[-1].split("::")[-1], False, inside) if rest else (None, False, "")
 
 
 def functions(text):
@@ -47,10 +59,12 @@ def functions(text):
         opened = next((n for n, line in enumerate(lines) if line == it[1] + "{" or line.endswith((" {", ";"))), 0)
         closed = next((n for n, line in enumerate(lines) if n > opened and line == it[1] + "}"), opened + 1)
         is_declared = not end or lines[opened].endswith(";")
-        trait, declares = trait_at(text, it.start())
+        trait, declares, block = trait_at(text, it.start())
         clauses = "\n".join(lines[: opened + 1])
         body = 0 if is_declared else closed - opened - 1
-        yield text[: it.start()].count("\n") + 1, it[2], trait, declares, "ensures" in clauses, body
+        ghost = OF_STD.get((trait, it[2]))
+        has = "ensures" in clauses or ghost is not None and ghost in block
+        yield text[: it.start()].count("\n") + 1, it[2], trait, declares, has, body
 
 
 def crates():
