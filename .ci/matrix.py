@@ -13,7 +13,7 @@ heading names. All else is in .ci/evidence, a part for each rule:
 
 A `contract` is a public function or a law (TYPE::NAME or NAME). Its clauses have to cite a definition of the rule, by
 themselves or by the definitions that they need. An `edit` is a wrong body as documents name it, a `scene` is of
-test_scenes or of a law crate, a `row` a case of test_rows (or a pattern of cases). A key with nothing is left out:
+test_scenes or of a law crate, a `row` a case of test_program (or a pattern of cases). A key with nothing is left out:
 TRACE shows it as a gap.
 """
 
@@ -29,7 +29,7 @@ from tables import TOP, read
 
 PAGE, RULES, EVIDENCE = "docs/TRACE.md", "docs/RULES.md", ".ci/evidence"
 SPECS = ("rbc_spec", "law_outside", "law_trains")
-ROWS = "crates/test_rows/data/rows"
+ROWS = "crates/test_program/data/rows"
 RULE = re.compile(r"\*\*([A-Z]{2}-\d+)\*\* \(([^)]*)\)\. ")
 CLAUSE = re.compile(r"(SUBSET-\d{3}|\d+(\.\d+)+)(, (SUBSET-\d{3}|\d+(\.\d+)+))*(, profile)?|profile")
 CITED = re.compile(r"\b[A-Z]{2}-\d+\b")
@@ -243,7 +243,7 @@ Made by `.ci/names --write` from [RULES.md](RULES.md) and `.ci/evidence`. It has
 - **wrong bodies** against the rule that the prover refuses. The gate tries those without `edits/`
   ([GATE.md](GATE.md));
 - **scenes** that compute the definitions: those of `test_scenes`, and those of the laws;
-- **cases** of `test_rows`: commands of the program with the expected output.
+- **cases** of `test_program`: commands of the program with the expected output.
 
 The lists name some evidence, and not all. By its clause `exact`, `Centre::step` states each rule of a centre's step,
 and it is not listed for each. Contracts of lower crates that state a rule by definitions of their own, as

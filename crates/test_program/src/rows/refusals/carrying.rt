@@ -1,6 +1,6 @@
 //! A frame over a queue.
 
-use crate::refusals::playing::Stopped;
+use crate::rows::refusals::playing::Stopped;
 use rbc_board::{Carrier, QueueCarrier};
 use rbc_linkmsg::Frame;
 use std::alloc::Global;

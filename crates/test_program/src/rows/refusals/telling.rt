@@ -1,6 +1,6 @@
 //! The bytes of the messages to the train.
 
-use crate::refusals::playing::Stopped;
+use crate::rows::refusals::playing::Stopped;
 use crossbeam_channel::{Sender, bounded};
 use rbc_msgs::TrackMsg;
 use rbc_node::Share;

@@ -1,8 +1,8 @@
 //! The commits at a node. If memory is refused, node and share stay as they were, and the next attempt commits the
 //! event.
 
-use crate::refusals::line::{BEGINS, START};
-use crate::refusals::playing::Stopped;
+use crate::rows::refusals::line::{BEGINS, START};
+use crate::rows::refusals::playing::Stopped;
 use rbc_centre::{Event, Frame, StepFault};
 use rbc_log::CommitFault;
 use rbc_node::{Node, Open, Share, ShareFault};

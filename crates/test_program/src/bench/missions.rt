@@ -1,6 +1,6 @@
 //! The rate at which the centres of a line take events, from bytes to bytes.
 
-use crate::print::print_answer;
+use crate::bench::print::print_answer;
 use anyhow::{Context, bail};
 use rbc_line::Line;
 use rbc_msgs::encode_track;

@@ -2,7 +2,7 @@
 
 ghost use Rattle.std.specs.Prelude.{◌<◌, length};
 
-use crate::missions::line_in;
+use crate::bench::missions::line_in;
 use anyhow::bail;
 use rbc_line::Line;
 use rbc_log::{CentreLog, merge};

@@ -2,10 +2,10 @@
 
 ghost use Rattle.std.specs.Prelude.{◌<◌};
 
-use crate::refusals::carrying::over_a_queue;
-use crate::refusals::line::{A, B, two_centres};
-use crate::refusals::nodes::{Slot, frame, set, start, take};
-use crate::refusals::telling::told;
+use crate::rows::refusals::carrying::over_a_queue;
+use crate::rows::refusals::line::{A, B, two_centres};
+use crate::rows::refusals::nodes::{Slot, frame, set, start, take};
+use crate::rows::refusals::telling::told;
 use rbc_log::{Entry, merge};
 use rbc_node::{Family, GatherFault, Node, Share, gather};
 use std::alloc::{AllocError, Global};

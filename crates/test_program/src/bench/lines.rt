@@ -1,8 +1,8 @@
 //! The rate at which the lines of journals are made. The thread of a journal does the same: it reads the entries that a
 //! centre committed, and gives each a line with its checksum.
 
-use crate::commits::{Place, committed};
-use crate::missions::{events_in, line_in};
+use crate::bench::commits::{Place, committed};
+use crate::bench::missions::{events_in, line_in};
 use anyhow::Context;
 use rbc_line::Line;
 use rbc_log::Entry as Committed;

@@ -1,5 +1,5 @@
-use crate::folder::Folder;
-use crate::page::Page;
+use crate::rows::folder::Folder;
+use crate::rows::page::Page;
 use cli_commands::command::command;
 use cli_commands::files::Files;
 use std::alloc::Global;

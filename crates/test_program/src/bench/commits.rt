@@ -1,7 +1,7 @@
 //! The rate of commits to the logs of a line's centres, from a train's bytes to the bytes of the answer. A commit is
 //! that of a share, as a node makes it under its lock.
 
-use crate::missions::{events_in, line_in, written};
+use crate::bench::missions::{events_in, line_in, written};
 use anyhow::Context;
 use rbc_line::Line;
 use rbc_log::CentreLog;

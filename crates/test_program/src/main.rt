@@ -1,0 +1,96 @@
+//! Plays the cases of the commands of `rbcline`, and measures the speed of the codec and of the centres. Without an
+//! argument the codec reads and writes each message once, and nothing is printed. Then the program plays a train's
+//! start over two nodes, and the cases of the folder `rows`. Each case is a command with its files, the expected print
+//! and the exit status. The program prints each difference, and then the number of cases that passed. `nodes` plays
+//! only the start over two nodes. `codec TURNS` prints the messages a second of the codec. `answers LINE SCRIPT` prints
+//! the answers of a line's centres to a script of events. `time LINE SCRIPT TURNS` plays the script this many times,
+//! and prints the events a second and the bytes of one turn's messages to trains. `commits LINE SCRIPT TURNS` does the
+//! same with commits to the logs of the centres. `lines LINE SCRIPT TURNS` makes the lines of their journals, and
+//! prints the lines a second and the bytes of one turn. `merge LINE ENTRIES` merges logs with this many entries, one
+//! log for each centre of a line. It prints the count of merged entries, and the nanoseconds for each.
+//!
+//! Expected values come from the standard or from the written rules, never from the program's own output.
+#![tactic(auto)]
+
+mod bench;
+mod rows;
+
+use crate::bench::codec::measure_codec;
+use crate::bench::commits::measure_commits;
+use crate::bench::lines::measure_lines;
+use crate::bench::merging::measure_merge;
+use crate::bench::missions::{measure_steps, print_answers};
+use crate::rows::{play_nodes, play_rows};
+use anyhow::bail;
+use cli_commands::disk::words_of;
+use std::alloc::{AllocError, Global};
+use std::process::ExitCode;
+
+// The forms of the arguments.
+const FORMS: &str =
+    "nodes, or codec TURNS, or answers LINE SCRIPT, or time|commits|lines LINE SCRIPT TURNS, or merge LINE ENTRIES";
+
+fn main(rt: HostRuntime) -> anyhow::Result<ExitCode> {
+    let mut words = words_of(&rt);
+    // A call that memory refuses is tried once more.
+    if words.is_err() {
+        words = words_of(&rt);
+    }
+    let Ok(words) = words else {
+        bail!("the arguments could not be read");
+    };
+    match words.as_slice() {
+        [] => {
+            measure_codec(&rt, 1)?;
+            Ok(ExitCode::from(play_rows(&rt)))
+        }
+        [word] if word.as_str() == "nodes" => Ok(ExitCode::from(play_nodes(&rt))),
+        words => run(&rt, words),
+    }
+}
+
+// Makes the measurement of the words.
+fn run(rt: &HostRuntime, words: &[String]) -> anyhow::Result<ExitCode> {
+    let words = texts_of(rt.alloc(), words)?;
+    measure(rt, &words)?;
+    Ok(ExitCode::SUCCESS)
+}
+
+fn texts_of(alloc: Global, words: &[String]) -> Result<Vec<&str>, AllocError> {
+    let mut texts = Vec::with_capacity(alloc, words.len())?;
+    for word in words {
+        texts.push(word.as_str())?;
+    }
+    Ok(texts)
+}
+
+// Makes the measurement that the first word names.
+fn measure(rt: &HostRuntime, words: &[&str]) -> anyhow::Result<()> {
+    match words {
+        ["codec", turns] => Ok(measure_codec(rt, number_in(turns))?),
+        ["answers", line, script] => print_answers(rt, line, script),
+        ["merge", line, entries] => measure_merge(rt, line, number_in(entries)),
+        [what, line, script, turns] => measure_turns(rt, what, line, script, number_in(turns)),
+        _ => bail!("{FORMS}"),
+    }
+}
+
+// Makes a measurement over a line and this many turns of a script.
+fn measure_turns(
+    rt: &HostRuntime,
+    what: &str,
+    line: &str,
+    script: &str,
+    turns: u32,
+) -> anyhow::Result<()> {
+    match what {
+        "time" => measure_steps(rt, line, script, turns),
+        "commits" => measure_commits(rt, line, script, turns),
+        "lines" => measure_lines(rt, line, script, turns),
+        _ => bail!("{FORMS}"),
+    }
+}
+
+fn number_in(word: &str) -> u32 {
+    word.parse().unwrap_or(1)
+}
