@@ -34,7 +34,8 @@ use std::process::ExitCode;
 use std::sync::Wait;
 
 // The forms of the arguments.
-const FORMS: &str = "nodes, or simulate FIRST COUNT, or codec TURNS, or answers LINE SCRIPT, or time|commits|lines \
+const FORMS: &str =
+    "nodes, or simulate FIRST COUNT, or codec TURNS, or answers LINE SCRIPT, or time|commits|lines \
     LINE SCRIPT TURNS, or merge LINE ENTRIES";
 
 // The seeds of the simulator that are played without an argument.

@@ -4,6 +4,7 @@ use crate::simulator::carrying::committer;
 use crate::simulator::journal::last_stamp;
 use crate::simulator::judge::add_sections;
 use crate::simulator::program::Program;
+use crate::simulator::site::Site;
 use crate::simulator::trouble::{ABSENT, Done, MEMORY};
 use crate::simulator::worker::Worker;
 use rbc_centre::{Event, Outcome};
@@ -118,10 +119,7 @@ impl Program<'_> {
             return Ok(false);
         }
         let row = control.rows.remove(0);
-        match command_of(self.alloc, self.line, row.as_str()) {
-            Ok(command) => self.obey(rt, number, command, out)?,
-            Err(_) => out.extend_from_slice(SCRIPT_FAULT.as_bytes())?,
-        }
+        self.obey(rt, number, row.as_str(), out)?;
         Ok(true)
     }
 
@@ -140,13 +138,10 @@ impl Program<'_> {
         Ok(true)
     }
 
-    fn obey<R: Wait>(
-        &mut self,
-        rt: &R,
-        number: usize,
-        command: Command,
-        out: &mut Vec<u8>,
-    ) -> Done<()> {
+    fn obey<R: Wait>(&mut self, rt: &R, number: usize, row: &str, out: &mut Vec<u8>) -> Done<()> {
+        let Ok(command) = command_of(self.alloc, self.line, row) else {
+            return Ok(out.extend_from_slice(SCRIPT_FAULT.as_bytes())?);
+        };
         match command {
             Command::Nothing => Ok(()),
             Command::Stop => {
@@ -203,24 +198,14 @@ impl Program<'_> {
         printed: &WorldEvent,
         out: &mut Vec<u8>,
     ) -> Done<()> {
-        let (at, event) = event_of(printed);
+        let at = event_of(printed).0;
         let (Some(control), Some(site)) = (self.controls.get_mut(number), self.sites.get(at)) else {
             return Err(ABSENT);
         };
-        let reach = &site.journal.reach;
-        if reach.is_stuck {
+        if site.journal.reach.is_stuck {
             return Ok(out.extend_from_slice(JOURNAL_FAULT.as_bytes())?);
         }
-        let Some(worker) = control.workers.get_mut(at) else {
-            return Err(ABSENT);
-        };
-        let answer = committer(&site.own.node).commit(rt, &mut worker.share, event);
-        let text = text_of(self.alloc, self.line, printed, &answer)?;
-        let stamp = match &answer {
-            Ok(outcome) => reach.awaited(outcome.stamp),
-            Err(_) => 0,
-        };
-        control.wait_for(at, stamp, text)
+        control.commit(rt, site, printed)
     }
 
     // The answer leaves once the journals have the events that it waits for. It is a fault if one was given up; that to
@@ -251,6 +236,21 @@ impl Program<'_> {
 }
 
 impl Control {
+    // Commits an event of the interlocking at a centre.
+    fn commit<R: Wait>(&mut self, rt: &R, site: &Site<'_>, printed: &WorldEvent) -> Done<()> {
+        let (at, event) = event_of(printed);
+        let Some(worker) = self.workers.get_mut(at) else {
+            return Err(ABSENT);
+        };
+        let answer = committer(&site.own.node).commit(rt, &mut worker.share, event);
+        let text = text_of(self.alloc, site.line, printed, &answer)?;
+        let stamp = match &answer {
+            Ok(outcome) => site.journal.reach.awaited(outcome.stamp),
+            Err(_) => 0,
+        };
+        self.wait_for(at, stamp, text)
+    }
+
     // The answer waits for an event of one centre.
     fn wait_for(&mut self, at: usize, awaited: u32, text: Vec<u8>) -> Done<()> {
         let mut stamps = vec![in self.alloc; 0u32; self.workers.len()]?;

@@ -5,14 +5,14 @@ use crate::simulator::carrying::Link;
 use crate::simulator::connection::Connection;
 use crate::simulator::disk::Platter;
 use crate::simulator::lives::Found;
-use crate::simulator::resumed::{commit_entry, resumed_of};
+use crate::simulator::resumed::{Resumed, commit_entry, resumed_of};
 use crate::simulator::site::Site;
 use crate::simulator::trouble::{ABSENT, Done};
 use crate::simulator::worker::Worker;
 use rbc_line::Line;
 use std::alloc::Global;
 use std::sync::{Mutex, Wait};
-use text_journal::in_order;
+use text_journal::{Entry, in_order};
 
 /// How many control connections there are.
 pub const CONTROLS: usize = 2;
@@ -52,23 +52,26 @@ impl<'a> Program<'a> {
         platters: &'a [Mutex<Platter>],
         found: Found,
     ) -> Done<()> {
-        let mut centres = resumed_of(self.alloc, self.line)?;
-        for entry in in_order(self.alloc, found.entries)? {
-            let _ = commit_entry(rt, self.alloc, &mut centres, &entry)?;
-        }
-        for own in centres {
-            let at = self.sites.len();
-            let (Some(platter), Some(length)) = (platters.get(at), found.lengths.get(at)) else {
-                return Err(ABSENT);
-            };
-            self.sites
-                .push(Site::open(rt, self.line, own, platter, *length)?)?;
+        let Found { entries, lengths } = found;
+        let centres = self.taken_up(rt, entries)?;
+        for ((own, platter), length) in centres.into_iter().zip(platters).zip(lengths) {
+            let site = Site::open(rt, self.line, own, platter, length)?;
+            self.sites.push(site)?;
         }
         self.add_links(rt)?;
         for _ in 0..CONTROLS {
             self.add_control()?;
         }
         Ok(())
+    }
+
+    // The centres that have taken the events of their journals.
+    fn taken_up<R: Wait>(&self, rt: &R, entries: Vec<Vec<Entry>>) -> Done<Vec<Resumed>> {
+        let mut centres = resumed_of(self.alloc, self.line)?;
+        for entry in in_order(self.alloc, entries)? {
+            let _ = commit_entry(rt, self.alloc, &mut centres, &entry)?;
+        }
+        Ok(centres)
     }
 
     fn add_links<R: Wait>(&mut self, rt: &R) -> Done<()> {

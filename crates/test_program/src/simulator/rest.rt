@@ -17,6 +17,10 @@ impl Simulation<'_> {
         self.settle(rt, true)?;
         self.judge.catch_up(rt)?;
         self.judge_rest(rt)?;
+        self.end(rt)
+    }
+
+    fn end<R: Wait>(&mut self, rt: &R) -> Done<()> {
         self.is_full = in_hundred(&mut self.draws, 50);
         self.send_row(0, "set A 0")?;
         if let Some(program) = &mut self.program

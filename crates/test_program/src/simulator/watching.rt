@@ -82,6 +82,15 @@ fn spoken(alloc: Global, outcome: &Outcome) -> Result<Spoken, AllocError> {
             message: saying.message,
         })?;
     }
+    Ok(Spoken {
+        is_heard: outcome.silence.is_none(),
+        sayings,
+        words: words_of(alloc, outcome)?,
+    })
+}
+
+// The replies to the interlocking after an event.
+fn words_of(alloc: Global, outcome: &Outcome) -> Result<Vec<rbc_watch::Word>, AllocError> {
     let mut words = Vec::new(alloc);
     for word in outcome.words().as_slice() {
         words.push(match word {
@@ -91,9 +100,5 @@ fn spoken(alloc: Global, outcome: &Outcome) -> Result<Spoken, AllocError> {
             Word::Told(section) => rbc_watch::Word::Told(*section),
         })?;
     }
-    Ok(Spoken {
-        is_heard: outcome.silence.is_none(),
-        sayings,
-        words,
-    })
+    Ok(words)
 }
