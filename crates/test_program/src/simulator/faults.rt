@@ -58,13 +58,16 @@ impl Simulation<'_> {
         }
     }
 
-    // A train sends messages at once, over one connection or each over one of its own.
+    // A train sends messages at once: over one connection, or each over one of its own, where each begins a session.
     fn speak_often(&mut self, train: usize, centre: usize, count: u32, hangs_up: bool) -> Done<()> {
         for _ in 0..count {
-            if hangs_up {
+            let manner = if hangs_up {
                 let _ = self.hang_up(train, centre);
-            }
-            let _ = self.speak_to(train, centre, Manner::DueOrLast)?;
+                Manner::Initiation
+            } else {
+                Manner::DueOrLast
+            };
+            let _ = self.speak_to(train, centre, manner)?;
         }
         Ok(())
     }
