@@ -1,8 +1,8 @@
 //! Trains that are served side by side, while a right arrives from another centre.
 
-use crate::line::{ACCEPTED, INITIATION_OF_ONE, VERSION};
-use crate::play::Act;
-use crate::plays::{Play, Seen, ServeMode};
+use crate::running::line::{ACCEPTED, INITIATION_OF_ONE, VERSION};
+use crate::running::play::Act;
+use crate::running::plays::{Play, Seen, ServeMode};
 
 pub static PLAYS: [Play<'_>; 1] = [
     // The interlocking releases section 1, and is answered. Then train 2 opens its session and starts a mission in

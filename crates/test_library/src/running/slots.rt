@@ -1,8 +1,8 @@
 //! Endpoints whose slots are all taken: the connection that makes room for a new one.
 
-use crate::line::{INITIATION_OF_ONE, VERSION};
-use crate::play::Act;
-use crate::plays::{OPENED_FIRST, Play, Seen, ServeMode};
+use crate::running::line::{INITIATION_OF_ONE, VERSION};
+use crate::running::play::Act;
+use crate::running::plays::{OPENED_FIRST, Play, Seen, ServeMode};
 
 // The most connections that the control endpoint serves at once.
 const CONTROLS: usize = 4;

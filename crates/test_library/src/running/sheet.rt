@@ -1,6 +1,6 @@
 //! The file of a journal, in memory.
 
-use crate::client::{Done, Missed, PATIENCE_S};
+use crate::running::client::{Done, Missed, PATIENCE_S};
 use serve_journal::DurableFile;
 use std::alloc::{AllocError, Global};
 use std::io::ErrorKind;

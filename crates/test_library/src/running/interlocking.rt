@@ -1,8 +1,8 @@
 //! The control endpoint: the answers to its lines, and how it ends.
 
-use crate::line::{INITIATION_OF_ONE, VERSION};
-use crate::play::Act;
-use crate::plays::{OPENED_FIRST, Play, Seen, ServeMode};
+use crate::running::line::{INITIATION_OF_ONE, VERSION};
+use crate::running::play::Act;
+use crate::running::plays::{OPENED_FIRST, Play, Seen, ServeMode};
 
 pub static PLAYS: [Play<'_>; 4] = [
     // Lines of the control endpoint with their answers, and the end of it. In the print the event of C is the second:

@@ -1,7 +1,7 @@
 //! The answers to the interlocking when a centre can take no more events.
 
-use crate::client::{Done, Missed, answers, connect};
-use crate::line::three_centres;
+use crate::running::client::{Done, Missed, answers, connect};
+use crate::running::line::three_centres;
 use rbc_line::Line;
 use rbc_node::{Node, Open};
 use rbc_world::{Body, Event, Frame};

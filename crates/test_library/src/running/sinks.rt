@@ -1,9 +1,9 @@
 //! The delivery of a centre's answers: each goes to its train, over the connection that serves this train.
 
-use crate::client::{Done, Missed, heard, say};
-use crate::line::{INITIATION_OF_ONE, MISSION_OF_ONE, REQUEST_OF_ONE, VERSION, bytes_of};
-use crate::play::Act;
-use crate::plays::{Play, Seen, ServeMode};
+use crate::running::client::{Done, Missed, heard, say};
+use crate::running::line::{INITIATION_OF_ONE, MISSION_OF_ONE, REQUEST_OF_ONE, VERSION, bytes_of};
+use crate::running::play::Act;
+use crate::running::plays::{Play, Seen, ServeMode};
 use rbc_msgs::{TrackBody, TrackMsg, decode_track};
 use std::alloc::Global;
 use std::net::TcpStream;

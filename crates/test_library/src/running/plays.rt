@@ -1,12 +1,14 @@
 //! Plays at running centres: the steps of peers, and the comparisons after the centres have ended.
 
-use crate::client::{Done, Missed};
-use crate::line::three_centres;
-use crate::notes::NoteCounter;
-use crate::play::Round;
-use crate::railway::{audited, served};
-use crate::sheet::{Paper, cells};
-use crate::{initiations, interlocking, journals, notes, options, order, sinks, slots, trains};
+use crate::running::client::{Done, Missed};
+use crate::running::line::three_centres;
+use crate::running::notes::NoteCounter;
+use crate::running::play::Round;
+use crate::running::railway::{audited, served};
+use crate::running::sheet::{Paper, cells};
+use crate::running::{
+    initiations, interlocking, journals, notes, options, order, sinks, slots, trains,
+};
 use cli_commands::auditing::Verdict;
 use rbc_line::Line;
 use std::alloc::Global;

@@ -2,7 +2,7 @@
 
 ghost use Rattle.std.specs.Prelude.{◌≤◌, length, IfOk};
 
-use crate::client::{Done, Missed};
+use crate::running::client::{Done, Missed};
 use rbc_line::Line;
 use std::alloc::Global;
 

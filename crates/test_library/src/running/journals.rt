@@ -1,9 +1,9 @@
 //! Centres that keep journals: an event is written before its answer is sent, a full disk, and centres that go on from
 //! journals.
 
-use crate::line::{INITIATION_OF_ONE, VERSION};
-use crate::play::Act;
-use crate::plays::{Before, Journals, Play, Seen, ServeMode, Taken};
+use crate::running::line::{INITIATION_OF_ONE, VERSION};
+use crate::running::play::Act;
+use crate::running::plays::{Before, Journals, Play, Seen, ServeMode, Taken};
 
 const SET_1: [&str; 1] = ["1 > set A 1"];
 

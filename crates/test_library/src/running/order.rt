@@ -1,10 +1,10 @@
 //! The order of a centre's messages to a train, if two threads commit for this train.
 
-use crate::client::{Done, Missed, PATIENCE_S, connect, missed_by, say};
-use crate::line::{INITIATION_OF_ONE, VERSION, bytes_of};
-use crate::play::{Act, hear, send};
-use crate::plays::{OPENED_FIRST, Play, ServeMode};
-use crate::railway::Addresses;
+use crate::running::client::{Done, Missed, PATIENCE_S, connect, missed_by, say};
+use crate::running::line::{INITIATION_OF_ONE, VERSION, bytes_of};
+use crate::running::play::{Act, hear, send};
+use crate::running::plays::{OPENED_FIRST, Play, ServeMode};
+use crate::running::railway::Addresses;
 use rbc_msgs::decode_track;
 use std::alloc::Global;
 use std::io::Read;

@@ -1,9 +1,11 @@
 //! The options of `serve`. They bound the messages of a train, report shut sections and the use of logs and links, and
 //! bind a train to a connection.
 
-use crate::line::{ESTABLISHED, INITIATION_OF_ONE, MISSION_OF_ONE, REQUEST_OF_ONE, VERSION};
-use crate::play::Act;
-use crate::plays::{OPENED_FIRST, Play, Seen, ServeMode};
+use crate::running::line::{
+    ESTABLISHED, INITIATION_OF_ONE, MISSION_OF_ONE, REQUEST_OF_ONE, VERSION,
+};
+use crate::running::play::Act;
+use crate::running::plays::{OPENED_FIRST, Play, Seen, ServeMode};
 
 // Train 1 initiates its session again with T_TRAIN 3 and 4.
 const THIRD_INITIATION: &str = "9B0280000000C0000040";

@@ -1,8 +1,8 @@
 //! The Unix socket of the interlocking: its file, the files that are removed for it, and a run over it.
 
-use crate::client::{Done, Missed};
-use crate::files::name_of;
-use crate::line::three_centres;
+use crate::running::client::{Done, Missed};
+use crate::running::files::name_of;
+use crate::running::line::three_centres;
 use rbc_line::Line;
 use serve_journal::SystemFile;
 use serve_line::state::listen_at_path;

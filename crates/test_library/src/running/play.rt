@@ -1,12 +1,12 @@
 //! The steps of peers at the endpoints of running centres, in order.
 
-use crate::client::{Done, Missed, answers, connect, heard, is_ended, say};
-use crate::line::bytes_of;
-use crate::notes::{NoteCounter, report_until_noted};
-use crate::order::start_over_two;
-use crate::railway::Addresses;
-use crate::sheet::Paper;
-use crate::sinks::ask_until_both_come;
+use crate::running::client::{Done, Missed, answers, connect, heard, is_ended, say};
+use crate::running::line::bytes_of;
+use crate::running::notes::{NoteCounter, report_until_noted};
+use crate::running::order::start_over_two;
+use crate::running::railway::Addresses;
+use crate::running::sheet::Paper;
+use crate::running::sinks::ask_until_both_come;
 use std::alloc::Global;
 use std::net::{Net, SocketAddr, TcpListener, TcpStream};
 use std::thread::Threads;

@@ -1,9 +1,9 @@
 //! The notes of running centres: the missions and handovers that they report.
 
-use crate::client::{Done, Missed, PATIENCE_S};
-use crate::line::{ESTABLISHED, INITIATION_OF_ONE, MISSION_OF_ONE, VERSION};
-use crate::play::{Act, send};
-use crate::plays::{Play, Seen, ServeMode};
+use crate::running::client::{Done, Missed, PATIENCE_S};
+use crate::running::line::{ESTABLISHED, INITIATION_OF_ONE, MISSION_OF_ONE, VERSION};
+use crate::running::play::{Act, send};
+use crate::running::plays::{Play, Seen, ServeMode};
 use serve_notes::{About, NoteCounts, Notes};
 use std::alloc::Global;
 use std::fmt::Display;

@@ -1,8 +1,8 @@
 //! Which connection serves a train that initiates its session more than once.
 
-use crate::line::{INITIATION_OF_ONE, VERSION};
-use crate::play::Act;
-use crate::plays::{OPENED_FIRST, Play, ServeMode};
+use crate::running::line::{INITIATION_OF_ONE, VERSION};
+use crate::running::play::Act;
+use crate::running::plays::{OPENED_FIRST, Play, ServeMode};
 
 // Train 2 initiates its session, and is answered as train 1.
 const INITIATION_OF_TWO: &str = "9B028000000040000080";

@@ -1,10 +1,10 @@
 //! The centres of a line, served during a play.
 
-use crate::client::{Done, Missed, connect, say};
-use crate::line::{CONTROL, bytes_of};
-use crate::play::{Stage, now, play_rounds};
-use crate::plays::{Before, Papers, Play, Scene, ServeMode, Taken};
-use crate::sheet::Sheet;
+use crate::running::client::{Done, Missed, connect, say};
+use crate::running::line::{CONTROL, bytes_of};
+use crate::running::play::{Stage, now, play_rounds};
+use crate::running::plays::{Before, Papers, Play, Scene, ServeMode, Taken};
+use crate::running::sheet::Sheet;
 use cli_commands::auditing::{Audit, Verdict};
 use rbc_line::Line;
 use rbc_world::WorldEvent;
