@@ -1,6 +1,7 @@
 //! The reading of times, and of a journal that is damaged or of another line.
 
-use crate::journal::line::{B, ENTRIES, FILE, FIRST, OLD_FIRST, two_centres};
+use crate::journal::line::{ENTRIES, FILE, FIRST, OLD_FIRST};
+use crate::line::{B, line_of};
 use std::alloc::Global;
 use std::test::*;
 use text_journal::{JournalFault, read_journal};
@@ -15,7 +16,7 @@ fn read(alloc: Global, first: &str, others: &str) -> Result<Read, Fail> {
 }
 
 fn read_text(alloc: Global, text: &str) -> Result<Read, Fail> {
-    let line = two_centres(alloc)?;
+    let line = line_of(alloc, FILE)?;
     match read_journal(alloc, &line, B, FILE, text) {
         Ok(entries) => match entries.as_slice() {
             [first, second] => Ok(Ok((first.time_ms, second.time_ms))),

@@ -1,8 +1,8 @@
 //! The writing of a journal.
 
 use crate::codec::bytes::bytes_of;
-use crate::journal::line::{B, ENTRIES, FIRST, two_centres};
-use crate::line::INITIATION;
+use crate::journal::line::{ENTRIES, FILE, FIRST};
+use crate::line::{B, INITIATION, line_of};
 use rbc_world::WorldEvent;
 use std::alloc::Global;
 use std::test::*;
@@ -15,7 +15,7 @@ const BEFORE: Option<u64> = Some(1_767_225_599_999);
 
 // The journal of B with a section released, a frame and a message.
 fn written(alloc: Global) -> Result<Vec<u8>, Fail> {
-    let line = two_centres(alloc)?;
+    let line = line_of(alloc, FILE)?;
     let mut text = Vec::new(alloc);
     text.extend_from_slice(first_line(alloc, &line, B)?.as_bytes())?;
     text.push(b'\n')?;

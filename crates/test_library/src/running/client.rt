@@ -1,12 +1,14 @@
 //! A client of the centres: a train or the interlocking.
 
 use std::alloc::{AllocError, Global};
+use std::fmt;
+use std::fmt::{Debug, Formatter};
 use std::io::{Error, ErrorKind, Read, Write};
 use std::net::{Net, SocketAddr, TcpStream};
 use std::time::Duration;
 
 /// The thing that a play expected and did not get.
-#[derive(Clone, Copy, Debug)]
+#[derive(Clone, Copy)]
 pub enum Missed {
     /// An open endpoint.
     Endpoint,
@@ -40,6 +42,35 @@ pub enum Missed {
     Clock,
     /// Memory.
     Memory,
+}
+
+// The names of the faults, in their order.
+static NAMES: [&str; 16] = [
+    "Endpoint",
+    "Waiting",
+    "Taking",
+    "Read",
+    "Ended",
+    "NoAnswer",
+    "OtherAnswer",
+    "StillOpen",
+    "Entry",
+    "Print",
+    "Status",
+    "Audit",
+    "Note",
+    "Digits",
+    "Clock",
+    "Memory",
+];
+
+impl Debug for Missed {
+    fn fmt<W: fmt::Write>(&self, out: &mut Formatter<W>) -> fmt::Result {
+        match NAMES.get(*self as usize) {
+            Some(name) => out.write_str(name),
+            None => Ok(()),
+        }
+    }
 }
 
 impl From<AllocError> for Missed {

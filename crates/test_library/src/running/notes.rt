@@ -1,7 +1,8 @@
 //! The notes of running centres: the missions and handovers that they report.
 
+use crate::line::{ESTABLISHED, INITIATION, VERSION};
 use crate::running::client::{Done, Missed, PATIENCE_S};
-use crate::running::line::{ESTABLISHED, INITIATION_OF_ONE, MISSION_OF_ONE, VERSION};
+use crate::running::line::MISSION_OF_ONE;
 use crate::running::play::{Act, send};
 use crate::running::plays::{Play, Seen, ServeMode};
 use serve_notes::{About, NoteCounts, Notes};
@@ -133,7 +134,7 @@ pub static PLAYS: [Play<'_>; 1] = [
                 (1, Act::Takes(11 + 10 + 14)),
                 (1, Act::Crosses),
                 (2, Act::SecondTrain),
-                (2, Act::Sends(INITIATION_OF_ONE)),
+                (2, Act::Sends(INITIATION)),
                 (2, Act::Hears(VERSION)),
                 (2, Act::Sends(ESTABLISHED)),
                 (2, Act::Reports(2)),

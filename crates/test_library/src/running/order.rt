@@ -1,7 +1,8 @@
 //! The order of a centre's messages to a train, if two threads commit for this train.
 
+use crate::line::{INITIATION, VERSION};
 use crate::running::client::{Done, Missed, PATIENCE_S, connect, missed_by, say};
-use crate::running::line::{INITIATION_OF_ONE, VERSION, bytes_of};
+use crate::running::line::bytes_of;
 use crate::running::play::{Act, hear, send};
 use crate::running::plays::{OPENED_FIRST, Play, ServeMode};
 use crate::running::railway::Addresses;
@@ -66,7 +67,7 @@ fn opened<R: Net<Stream = TcpStream, Listener = TcpListener> + Clock>(
     addresses: Addresses,
 ) -> Done<TcpStream> {
     let stream = connect(rt, addresses.centre)?;
-    send(alloc, &stream, INITIATION_OF_ONE)?;
+    send(alloc, &stream, INITIATION)?;
     hear(alloc, &stream, VERSION)?;
     send(alloc, &stream, "9F028000000080000040")?;
     Ok(stream)

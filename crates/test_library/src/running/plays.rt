@@ -1,7 +1,8 @@
 //! Plays at running centres: the steps of peers, and the comparisons after the centres have ended.
 
+use crate::line::line_of;
 use crate::running::client::{Done, Missed};
-use crate::running::line::three_centres;
+use crate::running::line::THREE_CENTRES;
 use crate::running::notes::NoteCounter;
 use crate::running::play::Round;
 use crate::running::railway::{audited, served};
@@ -168,7 +169,7 @@ fn played_so<R: Threads + Wait + Sync + Net<Stream = TcpStream, Listener = TcpLi
     play: &'static Play<'static>,
     papers: Papers<'_>,
 ) -> Done<()> {
-    let line = three_centres(alloc).ok().ok_or(Missed::Memory)?;
+    let line = line_of(alloc, THREE_CENTRES).ok().ok_or(Missed::Memory)?;
     let notes = NoteCounter::new(play.seen);
     let scene = Scene {
         alloc,

@@ -1,7 +1,8 @@
 //! The answers to the interlocking when a centre can take no more events.
 
+use crate::line::line_of;
 use crate::running::client::{Done, Missed, answers, connect};
-use crate::running::line::three_centres;
+use crate::running::line::THREE_CENTRES;
 use rbc_line::Line;
 use rbc_node::{Node, Open};
 use rbc_world::{Body, Event, Frame};
@@ -147,7 +148,7 @@ fn asked_with<'a, R: Threads + Wait + Sync + Net<Stream = TcpStream> + Clock>(
 
 #[test]
 fn an_event_that_is_refused_is_answered_by_its_fault(rt: HostRuntime) -> Result<(), Fail> {
-    let line = three_centres(rt.alloc())?;
+    let line = line_of(rt.alloc(), THREE_CENTRES)?;
     let nodes = nodes_at_the_end(&rt, rt.alloc(), &line)?;
     asked(&rt, rt.alloc(), &line, &nodes)
 }

@@ -1,7 +1,8 @@
 //! The delivery of a centre's answers: each goes to its train, over the connection that serves this train.
 
+use crate::line::{INITIATION, VERSION};
 use crate::running::client::{Done, Missed, heard, say};
-use crate::running::line::{INITIATION_OF_ONE, MISSION_OF_ONE, REQUEST_OF_ONE, VERSION, bytes_of};
+use crate::running::line::{MISSION_OF_ONE, REQUEST_OF_ONE, bytes_of};
 use crate::running::play::Act;
 use crate::running::plays::{Play, Seen, ServeMode};
 use rbc_msgs::{TrackBody, TrackMsg, decode_track};
@@ -79,7 +80,7 @@ pub static PLAYS: [Play<'_>; 3] = [
                 (0, Act::Sends("9B028000000080000040")),
                 (0, Act::Hears(VERSION)),
                 (1, Act::Train),
-                (1, Act::Sends(INITIATION_OF_ONE)),
+                (1, Act::Sends(INITIATION)),
                 (1, Act::Sends("9B0240")),
                 (1, Act::Ends),
                 (0, Act::Sends("9B0280000000C0000040")),

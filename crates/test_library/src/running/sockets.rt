@@ -1,8 +1,9 @@
 //! The Unix socket of the interlocking: its file, the files that are removed for it, and a run over it.
 
+use crate::line::line_of;
 use crate::running::client::{Done, Missed};
 use crate::running::files::name_of;
-use crate::running::line::three_centres;
+use crate::running::line::THREE_CENTRES;
 use rbc_line::Line;
 use serve_journal::SystemFile;
 use serve_line::state::listen_at_path;
@@ -154,7 +155,7 @@ fn printed<R: Threads + Wait + Sync + Clock>(
 #[test]
 fn the_interlocking_is_served_over_a_socket(rt: HostRuntime) -> Result<(), Fail> {
     let path = name_of(&rt, "served.socket")?;
-    let line = three_centres(rt.alloc())?;
+    let line = line_of(rt.alloc(), THREE_CENTRES)?;
     let printed = printed_over_a_socket(&rt, rt.alloc(), &line, path.as_str())?;
     let wanted =
         "> set A 1\nA 1 Done\nsection 0 A shut\nsection 1 A open\nsection 2 B shut\nsection 3 C shut\n";

@@ -2,9 +2,9 @@
 //! too slow is cut.
 
 use crate::codec::bytes::bytes_of;
-use crate::line::{A, INITIATION, VERSION, two_centres};
+use crate::line::{A, INITIATION, TWO_CENTRES, VERSION, line_of};
 use crate::nodes::{node_of, said};
-use crossbeam_channel::{Receiver, bounded};
+use crossbeam_channel::{Receiver, Sender, bounded};
 use rbc_node::{Node, Open};
 use rbc_world::Outcome;
 use serve_workers::AnswerSink;
@@ -71,19 +71,32 @@ fn entered<R: Net<Stream = TcpStream, Listener = TcpListener> + Wait>(
     number: usize,
     room: usize,
 ) -> Result<Ends, Fail> {
+    let (sender, replies) = bounded(alloc, room)?;
+    let ends = ends_of(rt, alloc, replies)?;
+    connections.enter(rt, number, connection_of(&ends, sender)?)?;
+    Ok(ends)
+}
+
+fn ends_of<R: Net<Stream = TcpStream, Listener = TcpListener>>(
+    rt: &R,
+    alloc: Global,
+    replies: Receiver<Reply>,
+) -> Result<Ends, Fail> {
     let (train, stream) = pair(rt)?;
     let stream = Arc::new(alloc, stream)?;
     let shared_writer = Arc::new(alloc, SharedWriter::new(Shared(Arc::try_clone(&stream)?)))?;
-    let (sender, replies) = bounded(alloc, room)?;
-    let writer = Arc::try_clone(&shared_writer)?;
-    let connection = Connection::new(sender, writer, Arc::try_clone(&stream)?);
-    connections.enter(rt, number, connection)?;
     Ok(Ends {
         stream,
         shared_writer,
         replies,
         train,
     })
+}
+
+fn connection_of(ends: &Ends, sender: Sender<Reply>) -> Result<Connection, Fail> {
+    let writer = Arc::try_clone(&ends.shared_writer)?;
+    let stream = Arc::try_clone(&ends.stream)?;
+    Ok(Connection::new(sender, writer, stream))
 }
 
 // The connection leaves, its writer writes the answers that wait, and it ends: all bytes at its train.
@@ -135,7 +148,7 @@ fn brought_after_answers<R: Net<Stream = TcpStream, Listener = TcpListener> + Wa
     alloc: Global,
     outcomes: &[Outcome],
 ) -> Result<(Vec<u8>, Vec<u8>), Fail> {
-    let line = two_centres(alloc)?;
+    let line = line_of(alloc, TWO_CENTRES)?;
     let connections = TrainConnections::new(alloc, &line, 2, &[])?;
     brought_by_two(rt, alloc, &connections, outcomes)
 }
@@ -176,7 +189,7 @@ fn left_by_a_slow_train<R: Net<Stream = TcpStream, Listener = TcpListener> + Wai
 #[test]
 fn a_connection_whose_train_is_too_slow_is_cut(rt: HostRuntime) -> Result<(), Fail> {
     let outcomes = answers(&rt, rt.alloc())?;
-    let line = two_centres(rt.alloc())?;
+    let line = line_of(rt.alloc(), TWO_CENTRES)?;
     let connections = TrainConnections::new(rt.alloc(), &line, 2, &[])?.held(Some(A));
     let (is_kept, bytes) = left_by_a_slow_train(&rt, rt.alloc(), &connections, &outcomes)?;
     assert!(rt; (is_kept, bytes.as_slice()) == (false, [].as_slice()));
