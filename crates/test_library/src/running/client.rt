@@ -1,14 +1,12 @@
 //! A client of the centres: a train or the interlocking.
 
 use std::alloc::{AllocError, Global};
-use std::fmt;
-use std::fmt::{Debug, Formatter};
 use std::io::{Error, ErrorKind, Read, Write};
-use std::net::{Net, SocketAddr, TcpStream};
+use std::net::{SocketAddr, TcpStream};
 use std::time::Duration;
 
 /// The thing that a play expected and did not get.
-#[derive(Clone, Copy)]
+#[derive(Clone, Copy, Debug)]
 pub enum Missed {
     /// An open endpoint.
     Endpoint,
@@ -44,35 +42,6 @@ pub enum Missed {
     Memory,
 }
 
-// The names of the faults, in their order.
-static NAMES: [&str; 16] = [
-    "Endpoint",
-    "Waiting",
-    "Taking",
-    "Read",
-    "Ended",
-    "NoAnswer",
-    "OtherAnswer",
-    "StillOpen",
-    "Entry",
-    "Print",
-    "Status",
-    "Audit",
-    "Note",
-    "Digits",
-    "Clock",
-    "Memory",
-];
-
-impl Debug for Missed {
-    fn fmt<W: fmt::Write>(&self, out: &mut Formatter<W>) -> fmt::Result {
-        match NAMES.get(*self as usize) {
-            Some(name) => out.write_str(name),
-            None => Ok(()),
-        }
-    }
-}
-
 impl From<AllocError> for Missed {
     fn from(_: AllocError) -> Missed {
         Missed::Memory
@@ -87,8 +56,8 @@ pub type Done<T> = Result<T, Missed>;
 pub const PATIENCE_S: u64 = 60;
 
 /// A connection to an endpoint. Its reads wait for at most `PATIENCE_S` seconds.
-pub fn connect<R: Net<Stream = TcpStream>>(rt: &R, endpoint: SocketAddr) -> Done<TcpStream> {
-    let stream = TcpStream::connect(rt, endpoint)
+pub fn connect(host: &HostRuntime, endpoint: SocketAddr) -> Done<TcpStream> {
+    let stream = TcpStream::connect(host, endpoint)
         .ok()
         .ok_or(Missed::Endpoint)?;
     let patience = Duration::from_secs(PATIENCE_S);

@@ -13,7 +13,6 @@ use crate::running::{
 use cli_commands::auditing::Verdict;
 use rbc_line::Line;
 use std::alloc::Global;
-use std::net::{Net, TcpListener, TcpStream};
 use std::sync::Wait;
 use std::sync::atomic::AtomicUsize;
 use std::test::*;
@@ -98,7 +97,6 @@ pub const OPENED_FIRST: Seen<'_> = Seen::Begins("> train A 9B028000000040000040\
 
 #[test]
 fn each_play_ends_as_it_should(rt: HostRuntime) -> Result<(), Fail> {
-    let alloc = rt.alloc();
     for plays in [
         &initiations::PLAYS[..],
         &interlocking::PLAYS[..],
@@ -109,22 +107,25 @@ fn each_play_ends_as_it_should(rt: HostRuntime) -> Result<(), Fail> {
         &notes::PLAYS[..],
         &order::PLAYS[..],
     ] {
-        end_as_they_should(&rt, alloc, plays)?;
+        end_as_they_should(&rt, &rt, plays)?;
     }
     Ok(())
 }
 
 #[test]
 fn each_play_with_journals_ends_as_it_should(rt: HostRuntime) -> Result<(), Fail> {
-    end_as_they_should(&rt, rt.alloc(), &journals::PLAYS)
+    end_as_they_should(&rt, &rt, &journals::PLAYS)
 }
 
-// Reports the first play that does not end as expected, by its name and its fault.
-fn end_as_they_should<
-    R: Threads + Wait + Sync + Net<Stream = TcpStream, Listener = TcpListener> + Clock,
->(rt: &R, alloc: Global, plays: &'static [Play<'static>]) -> Result<(), Fail> {
+// Reports the first play that does not end as expected, by its name and its fault. Threads wait by `rt`, and peers are
+// at `host`.
+fn end_as_they_should<R: Threads + Wait + Sync + Clock>(
+    rt: &R,
+    host: &HostRuntime,
+    plays: &'static [Play<'static>],
+) -> Result<(), Fail> {
     for play in plays {
-        if let Err(missed) = end_so(rt, alloc, play) {
+        if let Err(missed) = end_so(rt, host, play) {
             let name = play.name;
             return Err(Fail::new(format_args!("{name}: {missed:?}")));
         }
@@ -132,11 +133,12 @@ fn end_as_they_should<
     Ok(())
 }
 
-fn end_so<R: Threads + Wait + Sync + Net<Stream = TcpStream, Listener = TcpListener> + Clock>(
+fn end_so<R: Threads + Wait + Sync + Clock>(
     rt: &R,
-    alloc: Global,
+    host: &HostRuntime,
     play: &'static Play<'static>,
 ) -> Done<()> {
+    let alloc = host.alloc();
     let of_a = cells(alloc)?;
     let of_b = cells(alloc)?;
     let of_c = cells(alloc)?;
@@ -160,18 +162,20 @@ fn end_so<R: Threads + Wait + Sync + Net<Stream = TcpStream, Listener = TcpListe
             room: &room_c,
         },
     };
-    played_so(rt, alloc, play, papers)
+    played_so(rt, host, play, papers)
 }
 
-fn played_so<R: Threads + Wait + Sync + Net<Stream = TcpStream, Listener = TcpListener> + Clock>(
+fn played_so<R: Threads + Wait + Sync + Clock>(
     rt: &R,
-    alloc: Global,
+    host: &HostRuntime,
     play: &'static Play<'static>,
     papers: Papers<'_>,
 ) -> Done<()> {
+    let alloc = host.alloc();
     let line = line_of(alloc, THREE_CENTRES).ok().ok_or(Missed::Memory)?;
     let notes = NoteCounter::new(play.seen);
     let scene = Scene {
+        host,
         alloc,
         line: &line,
         play,
@@ -193,6 +197,7 @@ pub struct Papers<'a> {
 /// A play, its line, its journals and its notes.
 #[derive(Clone, Copy)]
 pub struct Scene<'a> {
+    pub host: &'a HostRuntime,
     pub alloc: Global,
     pub line: &'a Line,
     pub play: &'static Play<'static>,

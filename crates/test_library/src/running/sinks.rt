@@ -9,7 +9,7 @@ use rbc_msgs::{TrackBody, TrackMsg, decode_track};
 use std::alloc::Global;
 use std::net::TcpStream;
 use std::thread;
-use std::time::{Clock, Duration};
+use std::time::Duration;
 
 // The most requests of the train for its authority.
 const REQUESTS: u32 = 1_000;
@@ -96,7 +96,7 @@ pub static PLAYS: [Play<'_>; 3] = [
 
 /// Asks for the authority until it reaches over the border. Message 3 of that step is followed by message 24 with the
 /// next T_TRAIN.
-pub fn ask_until_both_come<R: Clock>(rt: &R, alloc: Global, train: &TcpStream) -> Done<()> {
+pub fn ask_until_both_come(host: &HostRuntime, alloc: Global, train: &TcpStream) -> Done<()> {
     let mut before = None;
     for k in 0..REQUESTS {
         say(train, &request(alloc, 5 + k)?)?;
@@ -108,7 +108,7 @@ pub fn ask_until_both_come<R: Clock>(rt: &R, alloc: Global, train: &TcpStream) -
             ),
             _ => return Err(Missed::OtherAnswer),
         }
-        thread::sleep(rt, Duration::from_millis(5));
+        thread::sleep(host, Duration::from_millis(5));
     }
     Err(Missed::NoAnswer)
 }

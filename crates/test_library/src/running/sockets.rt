@@ -10,10 +10,9 @@ use serve_line::state::listen_at_path;
 use serve_line::{Endpoints, NoNotes, Record, ServeOptions, SocketFault, free_path, serve};
 use std::alloc::Global;
 use std::io::{Read, Write};
-use std::net::{IpAddr, Ipv4Addr, Net, SocketAddr, TcpListener, TcpStream};
+use std::net::{IpAddr, Ipv4Addr, SocketAddr};
 use std::os::unix::fs::MetadataExt;
 use std::os::unix::net::UnixStream;
-use std::rt::Files;
 use std::sync::Wait;
 use std::test::*;
 use std::thread::Threads;
@@ -84,8 +83,10 @@ fn a_socket_has_one_listener_and_is_for_its_owner(rt: HostRuntime) -> Result<(),
 }
 
 // The interlocking releases a section, and is answered. Then it sends `stop`, and its connection ends.
-fn ask<R: Net>(rt: &R, path: &str) -> Done<()> {
-    let mut stream = UnixStream::connect(rt, path).ok().ok_or(Missed::Endpoint)?;
+fn ask(host: &HostRuntime, path: &str) -> Done<()> {
+    let mut stream = UnixStream::connect(host, path)
+        .ok()
+        .ok_or(Missed::Endpoint)?;
     let _ = stream.set_read_timeout(Some(Duration::from_secs(20)));
     let answered = release(&mut stream);
     stream.write_all(b"stop\n").ok().ok_or(Missed::Taking)?;
@@ -108,23 +109,27 @@ fn release(stream: &mut UnixStream) -> Done<()> {
     stream.read_exact(&mut end).ok().ok_or(Missed::NoAnswer)
 }
 
-fn printed_over_a_socket<
-    R: Threads + Wait + Sync + Net<Stream = TcpStream, Listener = TcpListener> + Clock + Files,
->(rt: &R, alloc: Global, line: &Line, path: &str) -> Done<Vec<u8>> {
+fn printed_over_a_socket<R: Threads + Wait + Sync + Clock>(
+    rt: &R,
+    host: &HostRuntime,
+    line: &Line,
+    path: &str,
+) -> Done<Vec<u8>> {
+    let alloc = host.alloc();
     let any_port = SocketAddr::new(IpAddr::V4(Ipv4Addr::LOCALHOST), 0);
-    let endpoints = Endpoints::open_centres(rt, alloc, line, any_port, &NoNotes)
+    let endpoints = Endpoints::open_centres(host, alloc, line, any_port, &NoNotes)
         .ok()
         .ok_or(Missed::Endpoint)?;
     let endpoints = endpoints
-        .and_socket(rt, alloc, path, &NoNotes)
+        .and_socket(host, alloc, path, &NoNotes)
         .ok()
         .ok_or(Missed::Endpoint)?;
     let (printed, asked) = thread::join(
         rt,
         || printed(rt, alloc, line, endpoints),
-        || ask(rt, path),
+        || ask(host, path),
     );
-    free_path(rt, path).ok().ok_or(Missed::Endpoint)?;
+    free_path(host, path).ok().ok_or(Missed::Endpoint)?;
     asked?;
     printed
 }
@@ -156,7 +161,7 @@ fn printed<R: Threads + Wait + Sync + Clock>(
 fn the_interlocking_is_served_over_a_socket(rt: HostRuntime) -> Result<(), Fail> {
     let path = name_of(&rt, "served.socket")?;
     let line = line_of(rt.alloc(), THREE_CENTRES)?;
-    let printed = printed_over_a_socket(&rt, rt.alloc(), &line, path.as_str())?;
+    let printed = printed_over_a_socket(&rt, &rt, &line, path.as_str())?;
     let wanted =
         "> set A 1\nA 1 Done\nsection 0 A shut\nsection 1 A open\nsection 2 B shut\nsection 3 C shut\n";
     let is_there = fs::exists(&rt, path.as_str())?;
