@@ -3,6 +3,7 @@
 use crate::codec::bytes::bytes_of;
 use crate::journal::line::{ENTRIES, FILE, FIRST};
 use crate::line::{B, INITIATION, line_of};
+use rbc_line::Line;
 use rbc_world::WorldEvent;
 use std::alloc::Global;
 use std::test::*;
@@ -19,6 +20,11 @@ fn written(alloc: Global) -> Result<Vec<u8>, Fail> {
     let mut text = Vec::new(alloc);
     text.extend_from_slice(first_line(alloc, &line, B)?.as_bytes())?;
     text.push(b'\n')?;
+    add_entries(alloc, line, text)
+}
+
+fn add_entries(alloc: Global, line: Line, mut text: Vec<u8>) -> Result<Vec<u8>, Fail> {
+    let bytes = bytes_of(alloc, INITIATION)?;
     let set = WorldEvent::Set {
         centre: B,
         section: 1,
@@ -28,10 +34,7 @@ fn written(alloc: Global) -> Result<Vec<u8>, Fail> {
         to: B,
         number: 1,
     };
-    let train = WorldEvent::Train {
-        centre: B,
-        bytes: bytes_of(alloc, INITIATION)?,
-    };
+    let train = WorldEvent::Train { centre: B, bytes };
     for (stamp, time_ms, event) in [(1, NEW_YEAR, set), (7, BEFORE, frame), (8, None, train)] {
         let entry = Entry {
             stamp,

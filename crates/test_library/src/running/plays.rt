@@ -224,18 +224,30 @@ fn each_seen(scene: Scene<'_>, printed: &str, all: &[Seen<'_>]) -> Done<()> {
 
 fn is_seen(scene: Scene<'_>, printed: &str, seen: Seen<'_>) -> Done<bool> {
     match seen {
-        Seen::Prints(text) => Ok(printed == text),
-        Seen::Begins(text) => Ok(printed.starts_with(text)),
-        Seen::Has(text) => Ok(printed.contains(text)),
-        Seen::Counts(text, count) => Ok(printed.matches(text).count() == count),
-        Seen::Audits(least, most) => match audited(scene.alloc, scene.line, printed)? {
-            Verdict::Equal { events } => Ok(least <= events && events <= most),
-            Verdict::Differs { .. } => Ok(false),
-        },
+        Seen::Audits(least, most) => has_events(scene, printed, least, most),
         Seen::OfA(entries) => scene.papers.a.has(scene.alloc, entries),
         Seen::OfB(entries) => scene.papers.b.has(scene.alloc, entries),
         Seen::LengthOfA(length) => Ok(scene.papers.a.length() == length),
+        _ => Ok(is_print(printed, seen)),
+    }
+}
+
+fn is_print(printed: &str, seen: Seen<'_>) -> bool {
+    match seen {
+        Seen::Prints(text) => printed == text,
+        Seen::Begins(text) => printed.starts_with(text),
+        Seen::Has(text) => printed.contains(text),
+        Seen::Counts(text, count) => printed.matches(text).count() == count,
         // The notes are compared after all others.
-        Seen::Noted(..) => Ok(true),
+        Seen::Noted(..) => true,
+        _ => false,
+    }
+}
+
+// Whether an audit finds the print equal, with a number of events within these.
+fn has_events(scene: Scene<'_>, printed: &str, least: u64, most: u64) -> Done<bool> {
+    match audited(scene.alloc, scene.line, printed)? {
+        Verdict::Equal { events } => Ok(least <= events && events <= most),
+        Verdict::Differs { .. } => Ok(false),
     }
 }

@@ -109,29 +109,38 @@ fn release(stream: &mut UnixStream) -> Done<()> {
     stream.read_exact(&mut end).ok().ok_or(Missed::NoAnswer)
 }
 
+// The centres and the socket of the interlocking, at any ports and at this path.
+fn opened(host: &HostRuntime, line: &Line, path: &str) -> Done<Endpoints> {
+    let any_port = SocketAddr::new(IpAddr::V4(Ipv4Addr::LOCALHOST), 0);
+    let alloc = host.alloc();
+    let Ok(endpoints) = Endpoints::open_centres(host, alloc, line, any_port, &NoNotes) else {
+        return Err(Missed::Endpoint);
+    };
+    match endpoints.and_socket(host, alloc, path, &NoNotes) {
+        Ok(endpoints) => Ok(endpoints),
+        Err(_) => Err(Missed::Endpoint),
+    }
+}
+
 fn printed_over_a_socket<R: Threads + Wait + Sync + Clock>(
     rt: &R,
     host: &HostRuntime,
     line: &Line,
     path: &str,
 ) -> Done<Vec<u8>> {
-    let alloc = host.alloc();
-    let any_port = SocketAddr::new(IpAddr::V4(Ipv4Addr::LOCALHOST), 0);
-    let endpoints = Endpoints::open_centres(host, alloc, line, any_port, &NoNotes)
-        .ok()
-        .ok_or(Missed::Endpoint)?;
-    let endpoints = endpoints
-        .and_socket(host, alloc, path, &NoNotes)
-        .ok()
-        .ok_or(Missed::Endpoint)?;
+    let endpoints = opened(host, line, path)?;
     let (printed, asked) = thread::join(
         rt,
-        || printed(rt, alloc, line, endpoints),
+        || printed(rt, host.alloc(), line, endpoints),
         || ask(host, path),
     );
-    free_path(host, path).ok().ok_or(Missed::Endpoint)?;
-    asked?;
-    printed
+    if free_path(host, path).is_err() {
+        return Err(Missed::Endpoint);
+    }
+    match asked {
+        Ok(()) => printed,
+        Err(missed) => Err(missed),
+    }
 }
 
 fn printed<R: Threads + Wait + Sync + Clock>(
