@@ -129,9 +129,10 @@ fn printed_over_a_socket<R: Threads + Wait + Sync + Clock>(
     path: &str,
 ) -> Done<Vec<u8>> {
     let endpoints = opened(host, line, path)?;
+    let alloc = host.alloc();
     let (printed, asked) = thread::join(
         rt,
-        || printed(rt, host.alloc(), line, endpoints),
+        || printed(rt, alloc, line, endpoints),
         || ask(host, path),
     );
     if free_path(host, path).is_err() {
