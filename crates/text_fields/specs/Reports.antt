@@ -17,3 +17,9 @@ abbrev pub Reports : List ℕ → ℕ → EncodeFault → Type 0
 Reports rows place Memory = Unit {0}
 Reports rows place Write = ⊥
 Reports rows place (Line row words) = row ≡ unwrap_or (slice_get rows place) 0
+
+-- the report names this line, or memory ran out
+abbrev pub NamesRow : ℕ → EncodeFault → Type 0
+NamesRow row Memory = Unit {0}
+NamesRow row Write = ⊥
+NamesRow row (Line other words) = other ≡ row

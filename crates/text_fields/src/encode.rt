@@ -1,8 +1,9 @@
 //! Reads fields in the form of `decode --json`, and prints the bytes of their messages or their frame.
 
-ghost use Rattle.std.specs.Prelude.{[], ◌-◌, ◌≡◌, length};
-ghost use Rattle.text_fields.specs.Reports.{Reports, place_in};
+ghost use Rattle.std.specs.Prelude.{[], ◌++◌, ◌-◌, ◌∷◌, ◌≡◌, length, OnOk};
+ghost use Rattle.text_fields.specs.Reports.{NamesRow, Reports, place_in};
 
+use crate::reading::{field_in, objects_in};
 use crate::shown::Shown;
 use crate::written::{Written, WrittenFault, frame_of, message_of};
 use serde_json::Value;
@@ -32,6 +33,10 @@ impl From<AllocError> for EncodeFault {
 }
 
 impl<T: Drop> From<AllocFailed<T>> for EncodeFault {
+    ghost use Rattle.text_fields.specs.declared.encode.EncodeFault.TheVariants.{Memory};
+
+    ghost from_gives = { λ _ fault. fault ≡ Memory };
+
     fn from(_error: AllocFailed<T>) -> EncodeFault {
         EncodeFault::Memory
     }
@@ -62,58 +67,23 @@ fn print_objects<'a, W: Write>(
     out: &mut W,
 ) -> Result<(), EncodeFault> {
     for (row, object) in objects {
-        let Some((message, written)) = field_in(object) else {
-            let words = format!(in whole.alloc;
-                "name, value, from and to are wanted, as decode --json prints them"
-            )?;
-            return Err(EncodeFault::Line(*row, words));
-        };
-        whole.add(*row, message, written, out)?;
+        match field_in(object) {
+            Some((message, written)) => whole.add(*row, message, written, out)?,
+            None => return Err(no_field(whole.alloc, *row)),
+        }
     }
     whole.print(out)
 }
 
-// The objects of the lines, each with the number of its line, but those of faults.
-fn objects_in(alloc: Global, text: &str) -> Result<Vec<(usize, Value)>, EncodeFault> {
-    let mut objects = Vec::new(alloc);
-    let mut row = 0usize;
-    for line in text.lines() {
-        row = row.saturating_add(1);
-        if line.trim().is_empty() {
-            continue;
-        }
-        let object = object_in(alloc, row, line)?;
-        if object.get("fault").is_none() {
-            objects.push((row, object))?;
-        }
+// The fault of a line that is not a field.
+fn no_field(alloc: Global, row: usize) -> EncodeFault
+    ensures { NamesRow row result }
+{
+    let words = "name, value, from and to are wanted, as decode --json prints them";
+    match String::from_str(alloc, words) {
+        Ok(words) => EncodeFault::Line(row, words),
+        Err(error) => error.into(),
     }
-    Ok(objects)
-}
-
-fn object_in(alloc: Global, row: usize, line: &str) -> Result<Value, EncodeFault> {
-    match Value::from_str(alloc, line) {
-        Ok(object) => Ok(object),
-        Err(fault) if fault.is_memory() => Err(EncodeFault::Memory),
-        Err(_) => {
-            let words = format!(in alloc; "this is not a JSON object in a line")?;
-            Err(EncodeFault::Line(row, words))
-        }
-    }
-}
-
-// The number of the message, and the field that an object is.
-fn field_in(object: &Value) -> Option<(u64, Written<'_>)> {
-    let name = object.get("name")?.as_str()?;
-    let value = object.get("value")?.as_u64()?;
-    let from = object.get("from")?.as_u64()?;
-    let to = object.get("to")?.as_u64()?;
-    let message = match object.get("message") {
-        Some(number) => number.as_u64()?,
-        None => 0,
-    };
-    let width = to.checked_sub(from)?.checked_add(1)?;
-    let width = u32::try_from(width).ok()?;
-    Some((message, Written { name, width, value }))
 }
 
 /// The fields of one message or frame, each with the number of its line.
@@ -150,10 +120,25 @@ impl<'a> Whole<'a> {
     ) -> Result<(), EncodeFault> {
         if self.message != message {
             self.print(out)?;
-            self.rows.clear();
-            self.written.clear();
-            self.message = message;
+            self.begin(message);
         }
+        Ok(self.push(row, written)?)
+    }
+
+    // No field of this message is there yet.
+    fn begin(&mut self, message: u64)
+        ensures kind { (self.new.is_frame ≡ self.old.is_frame) × (self.new.message ≡ message) }
+        ensures none { (self.new.rows.items ≡ []) × (self.new.written.items ≡ []) }
+    {
+        self.rows.clear();
+        self.written.clear();
+        self.message = message;
+    }
+
+    fn push(&mut self, row: usize, written: Written<'a>) -> Result<(), AllocError>
+        ensures rows { OnOk result (self.new.rows.items ≡ self.old.rows.items ++ row ∷ []) }
+        ensures written { OnOk result (self.new.written.items ≡ self.old.written.items ++ written.entry ∷ []) }
+    {
         self.rows.push(row)?;
         self.written.push(written)?;
         Ok(())
@@ -164,14 +149,18 @@ impl<'a> Whole<'a> {
         if self.written.is_empty() {
             return Ok(());
         }
-        let done = if self.is_frame {
+        match self.bytes() {
+            Ok(bytes) => print_digits(self.alloc, &bytes, out),
+            Err(fault) => Err(self.fault_of(fault)),
+        }
+    }
+
+    // The bytes of the fields.
+    fn bytes(&self) -> Result<Vec<u8>, WrittenFault> {
+        if self.is_frame {
             frame_of(self.alloc, &self.written)
         } else {
             message_of(self.alloc, &self.written)
-        };
-        match done {
-            Ok(bytes) => print_digits(self.alloc, &bytes, out),
-            Err(fault) => Err(self.fault_of(fault)),
         }
     }
 

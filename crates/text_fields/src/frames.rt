@@ -10,7 +10,7 @@ use crate::walk::Walk;
 use std::alloc::AllocError;
 
 /// The header of a frame.
-const FRAME_HEADER: &[Row] = &[
+static FRAME_HEADER: [Row; 3] = [
     ("number", 32, Kind::Range(1, 65_536)),
     ("stamp", 32, Kind::Range(1, 1_073_741_823)),
     ("kind", 8, Kind::Words(FRAMES)),
@@ -42,21 +42,21 @@ const HANDOVER: Row = ("handover", 32, Kind::Range(1, 4_294_967_295));
 
 const TRACK: Row = ("track", 8, Kind::Range(0, 3));
 
-const RIGHT: &[Row] = &[ENGINE];
+static RIGHT: [Row; 1] = [ENGINE];
 
-const ASKED: &[Row] = &[ENGINE, FIRST, ("most sections", 8, Kind::Range(1, 31))];
+static ASKED: [Row; 3] = [ENGINE, FIRST, ("most sections", 8, Kind::Range(1, 31))];
 
-const LENT: &[Row] = &[ENGINE, FIRST, ("count of sections", 8, Kind::Range(0, 31))];
+static LENT: [Row; 3] = [ENGINE, FIRST, ("count of sections", 8, Kind::Range(0, 31))];
 
-const WITHDRAWN: &[Row] = &[ENGINE, ("section", 16, Kind::Range(0, 511))];
+static WITHDRAWN: [Row; 2] = [ENGINE, ("section", 16, Kind::Range(0, 511))];
 
-const RETURNED: &[Row] = &[ENGINE, FIRST, ("count of sections", 8, Kind::Range(1, 63))];
+static RETURNED: [Row; 3] = [ENGINE, FIRST, ("count of sections", 8, Kind::Range(1, 63))];
 
-const ANNOUNCED: &[Row] = &[HANDOVER, ENGINE, TRACK];
+static ANNOUNCED: [Row; 3] = [HANDOVER, ENGINE, TRACK];
 
-const HANDOVERS: &[Row] = &[HANDOVER, ENGINE];
+static HANDOVERS: [Row; 2] = [HANDOVER, ENGINE];
 
-const YIELDED: &[Row] = &[
+static YIELDED: [Row; 10] = [
     HANDOVER,
     ENGINE,
     ("T_TRAIN", 32, Kind::Range(0, 4_294_967_294)),
@@ -74,14 +74,14 @@ fn frame_rows(kind: u64) -> Option<&'static [Row]>
     ensures { IfSome result (λ rows. AreKinds rows.now) }
 {
     match kind {
-        1 | 2 | 3 | 4 => Some(RIGHT),
-        5 => Some(ASKED),
-        6 => Some(LENT),
-        7 => Some(WITHDRAWN),
-        8 => Some(RETURNED),
-        9 => Some(ANNOUNCED),
-        10 | 11 => Some(HANDOVERS),
-        12 => Some(YIELDED),
+        1 | 2 | 3 | 4 => Some(&RIGHT),
+        5 => Some(&ASKED),
+        6 => Some(&LENT),
+        7 => Some(&WITHDRAWN),
+        8 => Some(&RETURNED),
+        9 => Some(&ANNOUNCED),
+        10 | 11 => Some(&HANDOVERS),
+        12 => Some(&YIELDED),
         _ => None,
     }
 }
@@ -91,16 +91,31 @@ impl<'a> Walk<'a> {
     pub fn frame(&mut self) -> Result<(), AllocError>
         ensures { OnOk result (all_bits self.new.look ≡ all_bits self.old.look) }
     {
-        if !self.rows(FRAME_HEADER)? {
+        if !self.rows(&FRAME_HEADER)? {
             return Ok(());
         }
-        let is_whole = match frame_rows(self.last) {
-            Some(rows) => self.rows(rows)?,
-            None => false,
-        };
-        if is_whole && self.room() > 0 {
-            self.notes.beyond = Some(self.look.count());
+        if self.own_rows()? {
+            self.note_more();
         }
         Ok(())
+    }
+
+    // Shows the fields of a frame after its kind. Returns whether all of them were there.
+    fn own_rows(&mut self) -> Result<bool, AllocError>
+        ensures { OnOk result (all_bits self.new.look ≡ all_bits self.old.look) }
+    {
+        match frame_rows(self.last) {
+            Some(rows) => self.rows(rows),
+            None => Ok(false),
+        }
+    }
+
+    // Notes the bits after the last field, if there are any.
+    fn note_more(&mut self)
+        ensures { self.new.look ≡ self.old.look }
+    {
+        if self.room() > 0 {
+            self.notes.beyond = Some(self.look.count());
+        }
     }
 }

@@ -85,15 +85,11 @@ impl<'a> Look<'a> {
     {
         match self.left.take(width) {
             Ok(value) => {
-                let packet = match entry.kind {
-                    Kind::Packet => Some(value),
-                    _ => packet,
-                };
                 self.shown.push(Shown {
                     field: entry,
                     width,
                     value,
-                    packet,
+                    packet: packet_of(entry.kind, packet, value),
                     scale: self.scale,
                 })?;
                 self.scale = scale_after(entry.name, value, self.scale);
@@ -117,6 +113,16 @@ impl<'a> Look<'a> {
             look.take(unread, width, None)?;
         }
         Ok(look.shown)
+    }
+}
+
+// The packet of a field with this value: NID_PACKET begins a packet.
+fn packet_of(kind: Kind, packet: Option<u64>, value: u64) -> Option<u64>
+    ensures { result ≡ packet_of kind packet value }
+{
+    match kind {
+        Kind::Packet => Some(value),
+        _ => packet,
     }
 }
 

@@ -61,8 +61,7 @@ pub fn message_of(alloc: Global, written: &[Written]) -> Result<Vec<u8>, Written
         → all_written written.now ≡ track_shown (length bytes.items) m) }
 {
     let bytes = put_together(alloc, written)?;
-    let seen = fields_of(alloc, &bytes)?;
-    are_written(&seen.shown, written)?;
+    are_of_message(alloc, &bytes, written)?;
     Ok(bytes)
 }
 
@@ -72,9 +71,30 @@ pub fn frame_of(alloc: Global, written: &[Written]) -> Result<Vec<u8>, WrittenFa
     ensures bits { IfOk result (λ bytes. bits_of bytes.items ≡ joined (fields_in (all_written written.now))) }
 {
     let bytes = put_together(alloc, written)?;
-    let seen = fields_of_frame(alloc, &bytes)?;
-    are_written(&seen.shown, written)?;
+    are_of_frame(alloc, &bytes, written)?;
     Ok(bytes)
+}
+
+// The message of the bytes has to show the same fields.
+fn are_of_message(alloc: Global, bytes: &[u8], written: &[Written]) -> Result<(), WrittenFault>
+    requires { length bytes.now ≤ 1023 }
+    ensures bits { OnOk result (bits_of bytes.now ≡ joined (fields_in (all_written written.now))) }
+    ensures train { (m : TrainText) → OnOk result (SpellsTrain bytes.now m
+        → all_written written.now ≡ train_shown (length bytes.now) m) }
+    ensures track { (m : TrackMessage) → OnOk result (SpellsTrack bytes.now m
+        → all_written written.now ≡ track_shown (length bytes.now) m) }
+{
+    let seen = fields_of(alloc, bytes)?;
+    are_written(&seen.shown, written)
+}
+
+// The frame of the bytes has to show the same fields.
+fn are_of_frame(alloc: Global, bytes: &[u8], written: &[Written]) -> Result<(), WrittenFault>
+    requires { length bytes.now ≤ 1023 }
+    ensures { OnOk result (bits_of bytes.now ≡ joined (fields_in (all_written written.now))) }
+{
+    let seen = fields_of_frame(alloc, bytes)?;
+    are_written(&seen.shown, written)
 }
 
 // The bits of the fields, put together, and zero bits up to whole bytes.
@@ -82,18 +102,27 @@ fn put_together(alloc: Global, written: &[Written]) -> Result<Vec<u8>, WrittenFa
     ensures short { IfOk result (λ bytes. length bytes.items ≤ 1023) }
 {
     let mut writer = BitWriter::with_capacity(alloc, LONGEST)?;
-    for place in 0..written.len() {
-        let field = written[place];
-        if !has_room(field.width, field.value) {
-            return Err(WrittenFault::Room(place));
-        }
-        writer.put(field.value, field.width)?;
-    }
+    put_all(&mut writer, written)?;
     let bytes = writer.finish()?;
     if bytes.len() > LONGEST {
         return Err(WrittenFault::Long);
     }
     Ok(bytes)
+}
+
+fn put_all(writer: &mut BitWriter, written: &[Written]) -> Result<(), WrittenFault> {
+    for place in 0..written.len() {
+        put(writer, place, written[place])?;
+    }
+    Ok(())
+}
+
+// Writes the field at this place.
+fn put(writer: &mut BitWriter, place: usize, field: Written) -> Result<(), WrittenFault> {
+    if !has_room(field.width, field.value) {
+        return Err(WrittenFault::Room(place));
+    }
+    Ok(writer.put(field.value, field.width)?)
 }
 
 // Whether a field of this width can have the value.
