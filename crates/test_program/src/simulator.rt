@@ -105,8 +105,9 @@ fn take_steps<R: Wait>(rt: &R, simulation: &mut Simulation<'_>) -> Done<()> {
 fn show_last<W: Write>(out: &mut W, simulation: &Simulation<'_>) {
     let first = simulation.marked.saturating_sub(LAST);
     for at in first..simulation.marked {
-        let mark = simulation.marks[at % LAST];
-        if writeln!(out, "{}: {} {}", mark.step, mark.what, mark.which).is_err() {
+        if let Some(mark) = simulation.marks.get(at % LAST)
+            && writeln!(out, "{}: {} {}", mark.step, mark.what, mark.which).is_err()
+        {
             return;
         }
     }

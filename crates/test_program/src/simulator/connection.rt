@@ -137,10 +137,10 @@ impl Connection {
     }
 
     // Bytes of its writer leave the centre. There are none if the writer ended.
-    fn note(&mut self, bytes: &[u8]) -> Done<Written> {
+    fn note(&mut self, bytes: &[u8], out: &mut Vec<Leaving>) -> Done<()> {
         if bytes.is_empty() {
             self.is_shut = true;
-            return Ok(Written::Ends);
+            return Ok(());
         }
         let Ok(message) = decode_track(bytes) else {
             return Err(Trouble("a train got bytes that are no message"));
@@ -150,19 +150,18 @@ impl Connection {
             nid_engine: self.nid_engine,
             message,
         };
-        Ok(Written::Says(said, self.heard.replace(message.t_train())))
+        let before = self.heard.replace(message.t_train());
+        out.push(Leaving { said, before })?;
+        Ok(())
     }
 }
 
-/// The step of a writer.
+/// A message that leaves over a connection.
 #[derive(Clone, Copy)]
-pub enum Written {
-    /// No reply may leave now.
-    Waits,
-    /// The connection is cut.
-    Ends,
-    /// A message leaves. The one before it over this connection had this T_TRAIN.
-    Says(Said, Option<u32>),
+pub struct Leaving {
+    pub said: Said,
+    /// T_TRAIN of the message before it over this connection.
+    pub before: Option<u32>,
 }
 
 impl Program<'_> {
@@ -185,8 +184,9 @@ impl Program<'_> {
         Ok(true)
     }
 
-    /// The thread that writes a connection writes the next reply, once the journal has its event.
-    pub fn write<R: Wait>(&mut self, rt: &R, number: usize) -> Done<Written> {
+    /// The thread that writes a connection writes the next reply, once the journal has its event. The message that leaves
+    /// is added to `out`. The result is whether it took a step.
+    pub fn write<R: Wait>(&mut self, rt: &R, number: usize, out: &mut Vec<Leaving>) -> Done<bool> {
         let Some(connection) = self.connections.get_mut(number) else {
             return Err(ABSENT);
         };
@@ -194,10 +194,12 @@ impl Program<'_> {
             return Err(ABSENT);
         };
         let reach = &site.journal.reach;
-        match connection.due(rt, reach) {
-            Some(reply) => connection.note(&bytes_of(rt, self.alloc, reach, reply)?),
-            None => Ok(Written::Waits),
-        }
+        let Some(reply) = connection.due(rt, reach) else {
+            return Ok(false);
+        };
+        let bytes = bytes_of(rt, self.alloc, reach, reply)?;
+        connection.note(&bytes, out)?;
+        Ok(true)
     }
 }
 

@@ -1,8 +1,8 @@
 //! A run: the centres, their disks, the trains and the interlocking. The order of the steps and the faults are drawn.
 
-use crate::simulator::connection::Written;
+use crate::simulator::connection::Leaving;
 use crate::simulator::disk::{Fate, Platter};
-use crate::simulator::judge::{Judge, Said};
+use crate::simulator::judge::Judge;
 use crate::simulator::lives::Found;
 use crate::simulator::lots::{below, in_hundred};
 use crate::simulator::program::{CONTROLS, Program};
@@ -49,6 +49,12 @@ pub struct Mark {
     pub which: usize,
 }
 
+const NO_STEP: Mark = Mark {
+    step: 0,
+    what: "",
+    which: 0,
+};
+
 /// The state of a run.
 #[derive(Drop)]
 pub struct Simulation<'a> {
@@ -82,7 +88,7 @@ pub struct Simulation<'a> {
     pub step: u32,
     /// The number of steps that were noted, and the last of them.
     pub marked: usize,
-    pub marks: [Mark; LAST],
+    pub marks: Vec<Mark>,
 }
 
 impl<'a> Simulation<'a> {
@@ -98,6 +104,7 @@ impl<'a> Simulation<'a> {
         let sections = sections_of(alloc, line)?;
         let trains = trains_on(alloc, line, &sections, &mut draws)?;
         let judge = Judge::new(alloc, line, platters)?;
+        let marks = vec![in alloc; NO_STEP; LAST]?;
         Ok(Simulation {
             alloc,
             line,
@@ -119,18 +126,16 @@ impl<'a> Simulation<'a> {
             happenings: 0,
             step: 0,
             marked: 0,
-            marks: [Mark {
-                step: 0,
-                what: "",
-                which: 0,
-            }; LAST],
+            marks,
         })
     }
 
     /// Notes that a step did something.
     pub fn mark(&mut self, what: &'static str, which: usize) {
         let step = self.step;
-        self.marks[self.marked % LAST] = Mark { step, what, which };
+        if let Some(place) = self.marks.get_mut(self.marked % LAST) {
+            *place = Mark { step, what, which };
+        }
         self.marked = self.marked.saturating_add(1);
     }
 
@@ -247,17 +252,18 @@ impl<'a> Simulation<'a> {
         let Some(program) = &mut self.program else {
             return Ok(false);
         };
-        match program.write(rt, number)? {
-            Written::Waits => return Ok(false),
-            Written::Ends => {}
-            Written::Says(said, before) => self.hear(rt, &said, before)?,
+        let mut leaving = Vec::new(self.alloc);
+        let did = program.write(rt, number, &mut leaving)?;
+        for it in &leaving {
+            self.hear(rt, it)?;
         }
-        Ok(true)
+        Ok(did)
     }
 
-    // A message leaves to a train, over a connection over which the message before had the T_TRAIN `before`.
-    fn hear<R: Wait>(&mut self, rt: &R, said: &Said, before: Option<u32>) -> Done<()> {
-        self.judge.to_train(rt, said, before)?;
+    // A message leaves to a train.
+    fn hear<R: Wait>(&mut self, rt: &R, leaving: &Leaving) -> Done<()> {
+        let said = &leaving.said;
+        self.judge.to_train(rt, said, leaving.before)?;
         for train in &mut self.trains {
             if train.nid_engine == said.nid_engine {
                 train.hear(
