@@ -2,6 +2,8 @@
 //! damaged or of another line. Tests of journal files are in `running`.
 //!
 //! Digests and checksums are those of `sha256sum` over the line file, and over the text after the checksum.
-mod line;
+pub mod line;
+#[cfg(test)]
 mod reading;
+#[cfg(test)]
 mod writing;

@@ -10,20 +10,16 @@
 
 #[cfg(test)]
 mod centres;
-#[cfg(test)]
-mod codec;
+pub mod codec;
 #[cfg(test)]
 mod examples;
-#[cfg(test)]
-mod journal;
+pub mod journal;
 pub mod line;
 #[cfg(test)]
 mod nodes;
-#[cfg(test)]
-mod page;
+pub mod page;
 #[cfg(test)]
 mod running;
 #[cfg(test)]
 mod serving;
-#[cfg(test)]
-mod workers;
+pub mod workers;
