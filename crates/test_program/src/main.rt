@@ -22,8 +22,8 @@ use crate::bench::merging::measure_merge;
 use crate::bench::missions::{measure_steps, print_answers};
 use crate::rows::{play_nodes, play_rows};
 use anyhow::bail;
-use cli_commands::disk::words_of;
 use std::alloc::{AllocError, Global};
+use std::env;
 use std::process::ExitCode;
 
 // The forms of the arguments.
@@ -31,21 +31,34 @@ const FORMS: &str =
     "nodes, or codec TURNS, or answers LINE SCRIPT, or time|commits|lines LINE SCRIPT TURNS, or merge LINE ENTRIES";
 
 fn main(rt: HostRuntime) -> anyhow::Result<ExitCode> {
-    let mut words = words_of(&rt);
-    // A call that memory refuses is tried once more.
-    if words.is_err() {
-        words = words_of(&rt);
+    let words = words_of(&rt)?;
+    if words.is_empty() {
+        measure_codec(&rt, 1)?;
+        return Ok(ExitCode::from(play_rows(&rt)));
     }
-    let Ok(words) = words else {
-        bail!("the arguments could not be read");
-    };
-    match words.as_slice() {
-        [] => {
-            measure_codec(&rt, 1)?;
-            Ok(ExitCode::from(play_rows(&rt)))
-        }
-        [word] if word.as_str() == "nodes" => Ok(ExitCode::from(play_nodes(&rt))),
-        words => run(&rt, words),
+    if is_nodes(&words) {
+        return Ok(ExitCode::from(play_nodes(&rt)));
+    }
+    run(&rt, &words)
+}
+
+// The words after the name of the program. If memory is refused, they are read once more.
+fn words_of(rt: &HostRuntime) -> anyhow::Result<Vec<String>> {
+    if let Ok(words) = args_of(rt) {
+        return Ok(words);
+    }
+    args_of(rt)
+}
+
+fn args_of(rt: &HostRuntime) -> anyhow::Result<Vec<String>> {
+    Ok(env::args(rt)?.skip(1).collect(rt.alloc())?)
+}
+
+// Whether the only word asks for the start over two nodes.
+fn is_nodes(words: &[String]) -> bool {
+    match words {
+        [word] => word.as_str() == "nodes",
+        _ => false,
     }
 }
 
