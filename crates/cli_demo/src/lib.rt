@@ -26,6 +26,7 @@ mod releasing;
 mod report;
 mod seconds;
 mod settings;
+mod speaking;
 
 pub use built_in::BUILT_IN;
 pub use demo::Demo;

@@ -8,11 +8,13 @@ ghost use Rattle.cli_demo.specs.Script.{event_text, row_text};
 use crate::demo::Demo;
 use crate::fault::DemoFault;
 use rbc_line::Line;
+use rbc_railway::RunningTrain;
 use std::alloc::Global;
 use std::fmt::Display;
 use std::io::Write;
 use text_script::WorldEvent;
 use text_script::print::name_of;
+use train_unit::driving::Driver;
 
 /// The number of events after which each train has a line.
 const OFTEN: u32 = 500;
@@ -112,10 +114,7 @@ impl Demo {
             return Ok(());
         }
         self.tally.shown = self.tally.events;
-        for train in 0..self.drivers.len() {
-            self.show(train, out)?;
-        }
-        Ok(())
+        self.show_all(out)
     }
 
     fn second_now(&self) -> u32
@@ -135,28 +134,27 @@ impl Demo {
         ) else {
             return Ok(());
         };
+        self.show_running(running, driver, out)
+    }
+
+    fn show_running<W: Write>(
+        &self,
+        running: &RunningTrain,
+        driver: &Driver,
+        out: &mut W,
+    ) -> Result<(), DemoFault> {
         let line = self.railway.line();
         let ends = running.ends();
-        let track = line.track_name(ends.track).unwrap_or("?");
-        let metres = ends.front / 10;
-        let limit = running
-            .unit()
-            .may_reach(ends.front)
-            .unwrap_or(u64::from(ends.front))
-            / 10;
-        let centre = match driver.follows {
-            Some(centre) => line.centre_name(centre).unwrap_or("?"),
-            None => "-",
-        };
         writeln!(
             out,
-            "{:>8}{:>8}{:>10}  {:<16}{:>11}{:>13}  {centre}",
+            "{:>8}{:>8}{:>10}  {:<16}{:>11}{:>13}  {}",
             self.tally.events,
             self.second_now(),
             running.nid_engine(),
-            track,
-            metres,
-            limit
+            line.track_name(ends.track).unwrap_or("?"),
+            ends.front / 10,
+            limit_of(running),
+            followed_name(line, driver)
         )?;
         Ok(())
     }
@@ -166,15 +164,20 @@ impl Demo {
         if self.settings.is_script {
             return Ok(());
         }
+        self.show_all(out)?;
+        self.print_counts(out)?;
+        writeln!(out, "{}", self.tally.verdict())?;
+        Ok(())
+    }
+
+    fn show_all<W: Write>(&self, out: &mut W) -> Result<(), DemoFault> {
         for train in 0..self.drivers.len() {
             self.show(train, out)?;
         }
-        let mut arrived = 0u32;
-        for train in 0..self.drivers.len() {
-            if self.has_arrived(train) {
-                arrived = arrived.saturating_add(1);
-            }
-        }
+        Ok(())
+    }
+
+    fn print_counts<W: Write>(&self, out: &mut W) -> Result<(), DemoFault> {
         let Tally {
             events,
             handovers,
@@ -185,9 +188,33 @@ impl Demo {
             "{events} events, {} messages, {} lost, {handovers} handovers",
             self.radio.sent, self.radio.lost
         )?;
+        let arrived = self.count_arrived();
         writeln!(out, "{arrived} of {} trains arrived", self.drivers.len())?;
-        writeln!(out, "{}", self.tally.verdict())?;
         Ok(())
+    }
+
+    fn count_arrived(&self) -> u32 {
+        let mut arrived = 0u32;
+        for train in 0..self.drivers.len() {
+            if self.has_arrived(train) {
+                arrived = arrived.saturating_add(1);
+            }
+        }
+        arrived
+    }
+}
+
+// How far a train may run, in metres.
+fn limit_of(running: &RunningTrain) -> u64 {
+    let front = running.ends().front;
+    running.unit().may_reach(front).unwrap_or(u64::from(front)) / 10
+}
+
+// The name of the centre that a train follows.
+fn followed_name<'n>(line: &'n Line, driver: &Driver) -> &'n str {
+    match driver.follows {
+        Some(centre) => line.centre_name(centre).unwrap_or("?"),
+        None => "-",
     }
 }
 

@@ -11,13 +11,12 @@ use crate::fault::{DemoFault, happened};
 use crate::interlocking::Interlocking;
 use crate::radio::Flight;
 use cli_storm::below;
-use rbc_line::Section;
-use rbc_railway::each_railway_is_safe;
+use rbc_railway::{Railway, each_railway_is_safe};
 use std::alloc::AllocError;
 use std::io::Write;
-use text_script::Answer;
+use text_script::{Answer, Saying};
 use train_unit::Ends;
-use train_unit::driving::{LENGTH, MARGIN, Speech, message, position, section_of};
+use train_unit::driving::{Driver, LENGTH, MARGIN, section_of};
 
 impl Demo {
     /// Seconds pass until each train has arrived, or there are enough events. Returns whether the check of the true
@@ -44,23 +43,41 @@ impl Demo {
         self.now = self.now.saturating_add(100);
         self.release(out)?;
         self.take_back(out)?;
+        self.move_all()?;
+        self.deliver_all(out)?;
+        self.check()?;
+        self.show_often(out)
+    }
+
+    // Each train runs, and sends its messages.
+    fn move_all(&mut self) -> Result<(), DemoFault> {
         for train in 0..self.drivers.len() {
             self.drive(train)?;
             self.speak(train)?;
         }
+        Ok(())
+    }
+
+    // Messages and frames arrive, by lot.
+    fn deliver_all<W: Write>(&mut self, out: &mut W) -> Result<(), DemoFault> {
         for _ in 0..self.radio.count() {
             self.receive(out)?;
         }
         for link in 0..self.links.count() {
-            if let Some(event) = self
-                .links
-                .delivery(&mut self.draws, self.settings.loss, link)
-            {
-                self.happen(&event, out)?;
-            }
+            self.deliver(link, out)?;
         }
-        self.check()?;
-        self.show_often(out)
+        Ok(())
+    }
+
+    // The next frame of a link arrives, by lot.
+    fn deliver<W: Write>(&mut self, link: usize, out: &mut W) -> Result<(), DemoFault> {
+        match self
+            .links
+            .delivery(&mut self.draws, self.settings.loss, link)
+        {
+            Some(event) => self.happen(&event, out),
+            None => Ok(()),
+        }
     }
 
     // The true ends of a train.
@@ -95,62 +112,23 @@ impl Demo {
 
     // A train runs as far as it may, at a speed by lot.
     fn drive(&mut self, train: usize) -> Result<(), DemoFault> {
-        let (Some(running), Some(driver)) = (
-            self.railway.trains().get(train),
-            self.drivers.get(train),
-        ) else {
+        let Some((front, limit, goal)) = self.limits(train) else {
             return Ok(());
         };
-        let ends = running.ends();
-        let Some(limit) = running.unit().may_reach(ends.front) else {
-            return Ok(());
-        };
-        let goal = driver.goal;
         let speed = below(&mut self.draws, 400) as u32 + 200;
-        if let Some(front) = next_front(ends.front, limit, goal, speed) {
+        if let Some(front) = next_front(front, limit, goal, speed) {
             let rear = front as i32 - LENGTH as i32;
             happened(self.railway.run_to(train, front, rear))?;
         }
         Ok(())
     }
 
-    // A train sends the message that is due to each centre.
-    fn speak(&mut self, train: usize) -> Result<(), DemoFault> {
-        let Some(section) = self.section_of(train) else {
-            return Ok(());
-        };
-        let Some(section) = self.interlocking.sections.get(section).copied() else {
-            return Ok(());
-        };
-        for centre in 0..self.railway.line().centre_count() {
-            self.speak_to(train, centre, section)?;
-        }
-        Ok(())
-    }
-
-    fn speak_to(&mut self, train: usize, centre: u8, section: Section) -> Result<(), DemoFault> {
-        let Some(driver) = self.drivers.get_mut(train) else {
-            return Ok(());
-        };
-        let Some(running) = self.railway.trains().get(train) else {
-            return Ok(());
-        };
-        driver.engage(section.home, self.now);
-        driver.reopen(centre, self.now);
-        let stamp = self.now.max(driver.clock.saturating_add(1));
-        let ends = running.ends();
-        let Some(speech) = driver.speech(running.unit(), centre, section.home, stamp, ends) else {
-            return Ok(());
-        };
-        let is_still = matches!(speech, Speech::EndOfMission);
-        let position = position(self.railway.line().nid_c(), section, ends.front, is_still);
-        let message = message(self.alloc, stamp, running.nid_engine(), speech, position)?;
-        if happened(self.railway.send(train, centre, &message))? {
-            driver.has_sent(centre, speech, stamp);
-            let message = self.railway.sent().len().saturating_sub(1);
-            self.radio.send(&mut self.draws, Flight::Up { message })?;
-        }
-        Ok(())
+    // The front end of a train, how far it may run, and its goal. None if it may not run.
+    fn limits(&self, train: usize) -> Option<(u32, u64, u32)> {
+        let running = self.railway.trains().get(train)?;
+        let goal = self.drivers.get(train)?.goal;
+        let front = running.ends().front;
+        Some((front, running.unit().may_reach(front)?, goal))
     }
 
     // A message arrives, by lot.
@@ -172,27 +150,29 @@ impl Demo {
         if !happened(self.railway.hear(answer, which))? {
             return Ok(());
         }
-        let Some(told) = self.railway.answers().get(answer) else {
-            return Ok(());
-        };
-        let Answer::Outcome(outcome) = &told.answer else {
-            return Ok(());
-        };
-        let Some(saying) = outcome.sayings.as_slice().get(which) else {
-            return Ok(());
-        };
-        for train in 0..self.drivers.len() {
-            if let Some(running) = self.railway.trains().get(train)
-                && running.nid_engine() == saying.nid_engine
-                && let Some(driver) = self.drivers.get_mut(train)
-            {
-                let is_first = driver.followed.is_none();
-                if driver.hears(self.railway.line(), told.centre, &saying.message, self.now) {
-                    return self.follows_other(train, is_first, out);
-                }
-            }
+        match self.learn(answer, which) {
+            Some((train, is_first)) => self.follows_other(train, is_first, out),
+            None => Ok(()),
         }
-        Ok(())
+    }
+
+    // The driver of the train that received a message learns from it. If the train follows another centre since then,
+    // it returns the train, and whether it followed none before.
+    fn learn(&mut self, answer: usize, which: usize) -> Option<(usize, bool)>
+        ensures { self.new.railway ≡ self.old.railway }
+    {
+        let told = self.railway.answers().get(answer)?;
+        let Answer::Outcome(outcome) = &told.answer else {
+            return None;
+        };
+        let saying = outcome.sayings.as_slice().get(which)?;
+        learned(
+            &mut self.drivers,
+            &self.railway,
+            told.centre,
+            saying,
+            self.now,
+        )
     }
 
     // Looks at the true places of all trains.
@@ -250,4 +230,27 @@ fn next_front(front: u32, limit: u64, goal: u32, speed: u32) -> Option<u32>
         .saturating_sub(MARGIN);
     let next = front.saturating_add(speed).min(most);
     if next > front { Some(next) } else { None }
+}
+
+// The driver of the train of a message of a centre learns from it. If the train follows another centre since then, it
+// returns the train, and whether it followed none before.
+fn learned(
+    drivers: &mut [Driver],
+    railway: &Railway,
+    centre: u8,
+    saying: &Saying,
+    now: u32,
+) -> Option<(usize, bool)> {
+    for train in 0..drivers.len() {
+        if let Some(running) = railway.trains().get(train)
+            && running.nid_engine() == saying.nid_engine
+            && let Some(driver) = drivers.get_mut(train)
+        {
+            let is_first = driver.followed.is_none();
+            if driver.hears(railway.line(), centre, &saying.message, now) {
+                return Some((train, is_first));
+            }
+        }
+    }
+    None
 }

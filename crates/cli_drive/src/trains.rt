@@ -19,6 +19,7 @@ mod fault;
 mod hearing;
 mod inbox;
 mod interlocking;
+mod looking;
 mod lots;
 mod observer;
 mod radio;

@@ -70,8 +70,7 @@ impl Calls {
     {
         let place = self.place_of(letter.train, letter.centre);
         if let Some(connection) = self.connections.get_mut(place) {
-            connection.open(rt, now)?;
-            connection.send(&letter.bytes);
+            connection.say(rt, &letter.bytes, now)?;
         }
         Ok(())
     }

@@ -71,12 +71,8 @@ impl Connection {
         self.inbox = Inbox::new(self.alloc);
     }
 
-    /// Opens it, if it is not open and it is time. An error means that it has failed too often.
-    pub(crate) fn open<R: Net<Stream = TcpStream>>(
-        &mut self,
-        rt: &R,
-        now: u32,
-    ) -> Result<(), TrainsFault>
+    // Opens it, if it is not open and it is time. An error means that it has failed too often.
+    fn open<R: Net<Stream = TcpStream>>(&mut self, rt: &R, now: u32) -> Result<(), TrainsFault>
         ensures early { is_due self.old now ≡ false → (result ≡ Ok tt) × (self.new ≡ self.old) }
         ensures again { is_due self.old now ≡ true → self.new.next ≡ min (now + AGAIN) (2 ^ 32 - 1) }
         ensures open { is_due self.old now ≡ true → is_some self.new.stream ≡ true → (result ≡ Ok tt)
@@ -132,8 +128,22 @@ impl Connection {
         Ok(())
     }
 
-    /// Sends these bytes, if it is open. If it does not take all of them at once, it ends.
-    pub(crate) fn send(&mut self, bytes: &[u8])
+    /// Opens it, if it is not open and it is time, and sends these bytes.
+    pub(crate) fn say<R: Net<Stream = TcpStream>>(
+        &mut self,
+        rt: &R,
+        bytes: &[u8],
+        now: u32,
+    ) -> Result<(), TrainsFault>
+        ensures { self.new.port ≡ self.old.port }
+    {
+        self.open(rt, now)?;
+        self.send(bytes);
+        Ok(())
+    }
+
+    // Sends these bytes, if it is open. If it does not take all of them at once, it ends.
+    fn send(&mut self, bytes: &[u8])
         ensures sent { is_some self.new.stream ≡ true → (is_some self.old.stream ≡ true)
             × (self.new.inbox ≡ self.old.inbox) }
         ensures ended { is_some self.old.stream ≡ true → self.new.stream ≡ None → HasEnded self.new }

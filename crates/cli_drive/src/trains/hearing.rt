@@ -13,10 +13,8 @@ use crate::trains::train::Train;
 use rbc_line::Line;
 use rbc_msgs::decode_track;
 use std::io::Write;
-use std::net::{Net, TcpStream};
-use std::time::Clock;
 
-impl<R: Net<Stream = TcpStream> + Clock> Running<'_, R> {
+impl<R> Running<'_, R> {
     /// Reads all connections. Each message that has arrived is on the way to its train. A connection of a train that no
     /// longer talks to the centre ends.
     pub(crate) fn collect(&mut self) -> Result<(), TrainsFault>

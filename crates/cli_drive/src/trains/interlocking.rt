@@ -75,16 +75,32 @@ impl Interlocking {
             ≡ map (λ known. known.is_released) self.old.known.items }
         ensures others { (s : ℕ) → s ≢ section → slice_get self.new.known.items s ≡ slice_get self.old.known.items s }
     {
+        match self.command(line, section, now)? {
+            Some(command) => self.connection.say(rt, command.as_bytes(), now),
+            None => Ok(()),
+        }
+    }
+
+    // The command to release a section, if it may be sent now.
+    fn command(
+        &mut self,
+        line: &Line,
+        section: usize,
+        now: u32,
+    ) -> Result<Option<String>, AllocError>
+        ensures sections { self.new.sections ≡ self.old.sections }
+        ensures released { map (λ known. known.is_released) self.new.known.items
+            ≡ map (λ known. known.is_released) self.old.known.items }
+        ensures others { (s : ℕ) → s ≢ section → slice_get self.new.known.items s ≡ slice_get self.old.known.items s }
+    {
         let Some(part) = self.sections.get(section).copied() else {
-            return Ok(());
+            return Ok(None);
         };
         if !take_turn(&mut self.known, section, now) {
-            return Ok(());
+            return Ok(None);
         }
         let command = set_command(self.alloc, line, part.home, section)?;
-        self.connection.open(rt, now)?;
-        self.connection.send(command.as_bytes());
-        Ok(())
+        Ok(Some(command))
     }
 
     /// Reads the replies that have arrived.

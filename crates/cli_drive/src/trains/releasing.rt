@@ -9,13 +9,12 @@ use crate::trains::seconds::Running;
 use crate::trains::train::Train;
 use rbc_line::Section;
 use std::net::{Net, TcpStream};
-use std::time::Clock;
 use train_unit::driving::covers;
 
 /// How many sections ahead of a train the interlocking releases.
 const AHEAD: usize = 4;
 
-impl<R: Net<Stream = TcpStream> + Clock> Running<'_, R> {
+impl<R: Net<Stream = TcpStream>> Running<'_, R> {
     /// The interlocking releases the section of each train, and sections in advance of a train that is accepted.
     pub(crate) fn release(&mut self) -> Result<(), TrainsFault>
         ensures shut { self.old.settings.is_releasing ≡ false → (result ≡ Ok tt) × (self.new ≡ self.old) }
@@ -58,7 +57,9 @@ impl<R: Net<Stream = TcpStream> + Clock> Running<'_, R> {
         self.interlocking
             .release(self.rt, self.line, section, self.now)
     }
+}
 
+impl<R> Running<'_, R> {
     // The section after this one on its track. None if a train that no centre has accepted is on it or on the next. The
     // own section of that train is released, so the one in rear of it has to be shut.
     fn next_free(&self, s: usize) -> Option<usize>

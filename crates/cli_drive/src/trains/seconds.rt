@@ -1,9 +1,8 @@
 //! The seconds of trains over TCP.
 
-ghost use Rattle.std.specs.Prelude.{◌&&◌, ◌+◌, ◌<◌, ◌≡◌, Err, IfOk, length, map, OnOk, slice_get};
-ghost use Rattle.cli_drive.specs.Apart.{are_apart};
+ghost use Rattle.std.specs.Prelude.{◌+◌, ◌<◌, ◌≡◌, Err, length, OnOk, slice_get};
 ghost use Rattle.cli_drive.specs.Changes.{ChangesAt};
-ghost use Rattle.cli_drive.specs.Fronts.{front_section, place_of};
+ghost use Rattle.cli_drive.specs.Fronts.{front_section};
 ghost use Rattle.cli_drive.specs.Obedience.{ends_of, HasRun, KeepsEnds, RunByRules, RunsByRules};
 ghost use Rattle.std.specs.List.{position};
 ghost use Rattle.std.specs.Prelude.{None, true};
@@ -11,10 +10,9 @@ ghost use Rattle.cli_drive.specs.Radios.{is_due};
 ghost use Rattle.cli_drive.specs.declared.trains.fault.TrainsFault.TheVariants.{Socket};
 
 use crate::trains::calls::{Calls, port_after};
-use crate::trains::check::are_apart;
 use crate::trains::fault::TrainsFault;
 use crate::trains::interlocking::Interlocking;
-use crate::trains::observer::{Observer, TruePlace};
+use crate::trains::observer::Observer;
 use crate::trains::radio::{Letter, Radio};
 use crate::trains::report::Tally;
 use crate::trains::settings::Settings;
@@ -27,7 +25,6 @@ use std::io::Write;
 use std::net::{Net, TcpStream};
 use std::thread;
 use std::time::{Clock, Duration};
-use train_unit::Ends;
 use train_unit::driving::placed_on;
 
 /// Trains that run over the centres of a line.
@@ -60,8 +57,7 @@ pub fn run<R: Net<Stream = TcpStream> + Clock + AllocGlobal, P: Observer, W: Wri
     ensures { 65535 < settings.port + length line.now.centres → result ≡ Err Socket }
 {
     let mut run = begun(rt, rt.alloc(), line, settings)?;
-    run.all(observer, out)?;
-    Ok(run.tally.are_apart)
+    run.all(observer, out)
 }
 
 // The trains at their first places. No connection is open yet.
@@ -108,7 +104,12 @@ fn first_trains(
 }
 
 impl<R: Net<Stream = TcpStream> + Clock> Running<'_, R> {
-    fn all<P: Observer, W: Write>(&mut self, observer: &P, out: &mut W) -> Result<(), TrainsFault> {
+    // All seconds. Returns whether no two trains were on one section at the end of one.
+    fn all<P: Observer, W: Write>(
+        &mut self,
+        observer: &P,
+        out: &mut W,
+    ) -> Result<bool, TrainsFault> {
         self.begin(out)?;
         for _ in 0..self.settings.seconds {
             if self.have_all_ended() {
@@ -116,7 +117,8 @@ impl<R: Net<Stream = TcpStream> + Clock> Running<'_, R> {
             }
             self.second(observer, out)?;
         }
-        self.end(out)
+        self.end(out)?;
+        Ok(self.tally.are_apart)
     }
 
     // A second: sections are released, trains run and send, and messages arrive.
@@ -127,17 +129,36 @@ impl<R: Net<Stream = TcpStream> + Clock> Running<'_, R> {
     ) -> Result<(), TrainsFault>
         ensures { OnOk result (RunByRules self.old.trains.items self.new.trains.items) }
     {
+        self.act()?;
+        thread::sleep(self.rt, Duration::from_millis(self.settings.second_ms));
+        self.observe(observer, out)?;
+        Ok(())
+    }
+
+    // Sections are released, trains run and send, and messages arrive at their centres.
+    fn act(&mut self) -> Result<(), TrainsFault>
+        ensures { OnOk result (RunByRules self.old.trains.items self.new.trains.items) }
+    {
         self.now = self.now.saturating_add(100);
         self.release()?;
         self.move_all()?;
         self.send_due()?;
-        thread::sleep(self.rt, Duration::from_millis(self.settings.second_ms));
-        self.listen(out)?;
-        self.look(observer)?;
-        self.show_often(out)?;
         Ok(())
     }
 
+    // Messages that are due arrive at their centres.
+    fn send_due(&mut self) -> Result<(), TrainsFault>
+        ensures trains { self.new.trains ≡ self.old.trains }
+        ensures sent { OnOk result (position (is_due self.old.now true) self.new.radio.letters.items ≡ None) }
+    {
+        while let Some(letter) = self.radio.arrival(self.now, true) {
+            self.calls.send(self.rt, &letter, self.now)?;
+        }
+        Ok(())
+    }
+}
+
+impl<R> Running<'_, R> {
     // Each train runs, and sends its messages.
     #[tactic(auto, using(crate::proofs::Moving::all_moved))]
     fn move_all(&mut self) -> Result<(), TrainsFault>
@@ -166,15 +187,17 @@ impl<R: Net<Stream = TcpStream> + Clock> Running<'_, R> {
         }
     }
 
-    // Messages that are due arrive at their centres.
-    fn send_due(&mut self) -> Result<(), TrainsFault>
-        ensures trains { self.new.trains ≡ self.old.trains }
-        ensures sent { OnOk result (position (is_due self.old.now true) self.new.radio.letters.items ≡ None) }
+    // Messages arrive at trains, and then the trains are looked at and shown.
+    fn observe<P: Observer, W: Write>(
+        &mut self,
+        observer: &P,
+        out: &mut W,
+    ) -> Result<(), TrainsFault>
+        ensures { ends_of self.new.trains.items ≡ ends_of self.old.trains.items }
     {
-        while let Some(letter) = self.radio.arrival(self.now, true) {
-            self.calls.send(self.rt, &letter, self.now)?;
-        }
-        Ok(())
+        self.listen(out)?;
+        self.look(observer)?;
+        self.show_often(out)
     }
 
     // Messages of centres come, and those that are due arrive at their trains.
@@ -241,45 +264,5 @@ impl<R: Net<Stream = TcpStream> + Clock> Running<'_, R> {
             }
         }
         true
-    }
-
-    // Looks at the true places of all trains, and shows them to the observer.
-    fn look<P: Observer>(&mut self, observer: &P) -> Result<(), TrainsFault>
-        ensures trains { self.new.trains ≡ self.old.trains }
-        ensures apart { OnOk result (self.new.tally.are_apart ≡ self.old.tally.are_apart
-            && are_apart self.old.interlocking.sections.items (ends_of self.old.trains.items)) }
-    {
-        let ends = ends_of(self.alloc, &self.trains)?;
-        let were_apart = are_apart(&self.interlocking.sections, &ends);
-        self.tally.check(were_apart);
-        let places = places_of(self.alloc, &self.trains)?;
-        observer.see(&places)?;
-        Ok(())
-    }
-}
-
-// The true ends of trains.
-fn ends_of(alloc: Global, trains: &[Train]) -> Result<Vec<Ends>, AllocError>
-    ensures { IfOk result (λ ends. ends.items ≡ ends_of trains.now) }
-{
-    trains.iter().map(|train| train.ends).collect(alloc)
-}
-
-// The true places of trains.
-fn places_of(alloc: Global, trains: &[Train]) -> Result<Vec<TruePlace>, AllocError>
-    ensures { IfOk result (λ places. places.items ≡ map place_of trains.now) }
-{
-    trains.iter().map(|train| place_of(train)).collect(alloc)
-}
-
-// The true place of a train.
-fn place_of(train: &Train) -> TruePlace
-    ensures { result ≡ place_of train.now }
-{
-    TruePlace {
-        nid_engine: train.unit.nid_engine(),
-        track: train.ends.track,
-        front: train.ends.front,
-        rear: train.ends.rear,
     }
 }
