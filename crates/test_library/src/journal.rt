@@ -2,8 +2,6 @@
 //! damaged or of another line. Tests of journal files are in `running`.
 //!
 //! Digests and checksums are those of `sha256sum` over the line file, and over the text after the checksum.
-pub mod line;
-#[cfg(test)]
+mod line;
 mod reading;
-#[cfg(test)]
 mod writing;

@@ -10,16 +10,20 @@
 
 #[cfg(test)]
 mod centres;
-pub mod codec;
+#[cfg(test)]
+mod codec;
 #[cfg(test)]
 mod examples;
-pub mod journal;
+#[cfg(test)]
+mod journal;
 pub mod line;
 #[cfg(test)]
 mod nodes;
-pub mod page;
+#[cfg(test)]
+mod page;
 #[cfg(test)]
 mod running;
 #[cfg(test)]
 mod serving;
-pub mod workers;
+#[cfg(test)]
+mod workers;

@@ -1,12 +1,13 @@
-//! The line of the tests, and the messages of its trains and centres.
+//! The line of the tests, and the messages of its trains and centres. `running` has a line of its own.
 
 ghost use Rattle.std.specs.Prelude.{◌≤◌, length, IfOk};
 
 use rbc_line::Line;
 use std::alloc::Global;
 
-/// The line file of two centres.
-pub const TWO_CENTRES: &str = "nid_c = 5
+/// The line file of two centres: sections 0 and 1 of centre A, and then section 2 of centre B. Train 1 is registered at
+/// A, train 2 at B.
+pub static TWO_CENTRES: &str = "nid_c = 5
 [[centre]]
 name = \"A\"
 nid_rbc = 1
@@ -34,10 +35,10 @@ pub const A: u8 = 0;
 /// The number of centre B.
 pub const B: u8 = 1;
 
-/// This train opens its session: ten bytes.
+/// Train 1 opens its session: ten bytes.
 pub const INITIATION: &str = "9B028000000040000040";
 
-/// It confirms the session.
+/// It establishes its session with T_TRAIN 2.
 pub const ESTABLISHED: &str = "9F028000000080000040";
 
 /// The centre answers with its version.
@@ -53,11 +54,11 @@ pub static START: [&str; 3] = [
     "9D0680000000C00000900040A0280CA096140050014406400418",
 ];
 
-/// Sections 0 and 1 of centre A, and then section 2 of centre B. Train 1 is registered at A, train 2 at B.
-pub fn two_centres(alloc: Global) -> Result<Line, &'static str>
+/// The line of a line file that is accepted.
+pub fn line_of(alloc: Global, file: &str) -> Result<Line, &'static str>
     ensures { IfOk result (λ line. 2 ≤ length line.centres) }
 {
-    Line::from_toml(alloc, TWO_CENTRES)
+    Line::from_toml(alloc, file)
         .ok()
         .ok_or("the line file is accepted")
 }

@@ -3,7 +3,7 @@
 ghost use Rattle.std.specs.Prelude.{◌<◌};
 
 use crate::codec::bytes::bytes_of;
-use crate::line::{A, B, two_centres};
+use crate::line::{A, B, TWO_CENTRES, line_of};
 use rbc_msgs::decode_train;
 use rbc_node::{Node, Open, Share};
 use rbc_world::Event;
@@ -15,7 +15,7 @@ use std::test::*;
 pub fn node_of(alloc: Global, centre: u8) -> Result<Node, Fail>
     requires { centre < 2 }
 {
-    let line = two_centres(alloc)?;
+    let line = line_of(alloc, TWO_CENTRES)?;
     Ok(Node::new(alloc, &line, centre)?)
 }
 

@@ -2,11 +2,7 @@
 //! each answer, of the health and the metrics, and of the page of a print. A person can read the page without a script.
 //! The expected answers are those of HTTP/1.1 (RFC 9110, RFC 9112).
 pub mod line;
-#[cfg(test)]
 mod requests;
-#[cfg(test)]
 mod run;
-#[cfg(test)]
 mod shown;
-#[cfg(test)]
 mod wanted;

@@ -3,9 +3,7 @@
 //! `running`.
 //!
 //! Expected values come from the standard or from the written rules, never from the program's own output.
-#[cfg(test)]
 mod carrying;
-#[cfg(test)]
 mod full_log;
 pub mod narrow;
 pub mod unruly;

@@ -1,7 +1,7 @@
 //! The logs of two centres' nodes, gathered and merged into one run.
 
 use crate::codec::bytes::bytes_of;
-use crate::line::{A, B, START, two_centres};
+use crate::line::{A, B, START, TWO_CENTRES, line_of};
 use crate::nodes::{both, commit, said};
 use rbc_log::{Entry, merge};
 use rbc_node::{Family, GatherFault, Node, Open, Share, gather};
@@ -33,7 +33,7 @@ fn entries_of(alloc: Global, family: &Family) -> Result<Vec<Entry>, Fail> {
 
 // The answers of the line's world to the events, and the world after them.
 fn run(alloc: Global, events: &[WorldEvent]) -> Result<Outputs, Fail> {
-    let line = two_centres(alloc)?;
+    let line = line_of(alloc, TWO_CENTRES)?;
     Ok(
         World::run(alloc, &line, events)
             .ok()

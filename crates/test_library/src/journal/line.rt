@@ -1,12 +1,7 @@
 //! The line of the tests, and a journal of its centre B.
 
-ghost use Rattle.std.specs.Prelude.{◌≤◌, length, IfOk};
-
-use rbc_line::Line;
-use std::alloc::Global;
-
-/// The line file.
-pub const FILE: &str = "nid_c = 5
+/// The line file: centre A with section 0, and centre B with section 1.
+pub static FILE: &str = "nid_c = 5
 [[centre]]
 name = \"A\"
 nid_rbc = 1
@@ -38,16 +33,3 @@ pub const ENTRIES: &str = "
 41e121de 7 1767225599999 > deliver A B 1
 5000362a 8 > train B 9B028000000040000040
 ";
-
-/// The number of centre B.
-pub const B: u8 = 1;
-
-/// Centre A with section 0, and centre B with section 1.
-pub fn two_centres(alloc: Global) -> Result<Line, &'static str>
-    ensures { IfOk result (λ line. 2 ≤ length line.centres) }
-{
-    let Ok(line) = Line::from_toml(alloc, FILE) else {
-        return Err("the line file is accepted");
-    };
-    Ok(line)
-}

@@ -1,9 +1,10 @@
 //! The reading of times, and of a journal that is damaged or of another line.
 
-use crate::journal::line::{B, ENTRIES, FILE, FIRST, OLD_FIRST, two_centres};
+use crate::journal::line::{ENTRIES, FILE, FIRST, OLD_FIRST};
+use crate::line::{B, line_of};
 use std::alloc::Global;
 use std::test::*;
-use text_journal::{JournalFault, read_journal};
+use text_journal::{Entry, JournalFault, read_journal};
 
 /// The times of the two entries of a journal, the number of its damaged line, or 0 if it is foreign.
 type Read = Result<(Option<u64>, Option<u64>), usize>;
@@ -15,15 +16,25 @@ fn read(alloc: Global, first: &str, others: &str) -> Result<Read, Fail> {
 }
 
 fn read_text(alloc: Global, text: &str) -> Result<Read, Fail> {
-    let line = two_centres(alloc)?;
+    let line = line_of(alloc, FILE)?;
     match read_journal(alloc, &line, B, FILE, text) {
-        Ok(entries) => match entries.as_slice() {
-            [first, second] => Ok(Ok((first.time_ms, second.time_ms))),
-            _ => Err("it has two entries".into()),
-        },
-        Err(JournalFault::Damaged(line)) => Ok(Err(line)),
-        Err(JournalFault::Foreign) => Ok(Err(0)),
-        Err(JournalFault::Memory) => Err("there is memory".into()),
+        Ok(entries) => times_of(&entries),
+        Err(fault) => fault_of(fault),
+    }
+}
+
+fn times_of(entries: &[Entry]) -> Result<Read, Fail> {
+    match entries {
+        [first, second] => Ok(Ok((first.time_ms, second.time_ms))),
+        _ => Err("it has two entries".into()),
+    }
+}
+
+fn fault_of(fault: JournalFault) -> Result<Read, Fail> {
+    match fault {
+        JournalFault::Damaged(line) => Ok(Err(line)),
+        JournalFault::Foreign => Ok(Err(0)),
+        JournalFault::Memory => Err("there is memory".into()),
     }
 }
 

@@ -39,16 +39,24 @@ pub fn unmet(text: &str, wants: &[Want<'_>]) -> Result<Option<usize>, Fail> {
 
 fn is_met(text: &str, want: Want<'_>) -> Result<bool, Fail> {
     match want {
-        Want::Is(whole) => Ok(text == whole),
-        Want::Begins(part) => Ok(text.starts_with(part)),
-        Want::Ends(part) => Ok(text.ends_with(part)),
-        Want::Has(part) => Ok(text.contains(part)),
-        Want::Lacks(part) => Ok(!text.contains(part)),
-        Want::Parts(between, count) => Ok(text.split(between).count() == count),
-        _ => {
+        Want::Head(_) | Want::Body(_) | Want::Rows(_) | Want::Length => {
             let (head, body) = text.split_once("\r\n\r\n").ok_or("there is an empty line")?;
             is_met_by(head, body, want)
         }
+        _ => Ok(is_met_whole(text, want)),
+    }
+}
+
+// Whether a text has this property of a whole text.
+fn is_met_whole(text: &str, want: Want<'_>) -> bool {
+    match want {
+        Want::Is(whole) => text == whole,
+        Want::Begins(part) => text.starts_with(part),
+        Want::Ends(part) => text.ends_with(part),
+        Want::Has(part) => text.contains(part),
+        Want::Lacks(part) => !text.contains(part),
+        Want::Parts(between, count) => text.split(between).count() == count,
+        _ => false,
     }
 }
 

@@ -2,7 +2,7 @@
 
 use std::alloc::{AllocError, Global};
 use std::io::{Error, ErrorKind, Read, Write};
-use std::net::{Net, SocketAddr, TcpStream};
+use std::net::{SocketAddr, TcpStream};
 use std::time::Duration;
 
 /// The thing that a play expected and did not get.
@@ -56,8 +56,8 @@ pub type Done<T> = Result<T, Missed>;
 pub const PATIENCE_S: u64 = 60;
 
 /// A connection to an endpoint. Its reads wait for at most `PATIENCE_S` seconds.
-pub fn connect<R: Net<Stream = TcpStream>>(rt: &R, endpoint: SocketAddr) -> Done<TcpStream> {
-    let stream = TcpStream::connect(rt, endpoint)
+pub fn connect(host: &HostRuntime, endpoint: SocketAddr) -> Done<TcpStream> {
+    let stream = TcpStream::connect(host, endpoint)
         .ok()
         .ok_or(Missed::Endpoint)?;
     let patience = Duration::from_secs(PATIENCE_S);

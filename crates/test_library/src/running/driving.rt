@@ -1,6 +1,7 @@
 //! A train that is driven by hand, over bytes in memory.
 
-use crate::running::line::{HALF_AN_INITIATION, VERSION, bytes_of};
+use crate::line::VERSION;
+use crate::running::line::{HALF_AN_INITIATION, bytes_of};
 use cli_drive::{DriveFault, drive, see_off, steps_of};
 use std::alloc::Global;
 use std::io;

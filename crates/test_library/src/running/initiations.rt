@@ -1,6 +1,6 @@
 //! Which connection serves a train that initiates its session more than once.
 
-use crate::running::line::{INITIATION_OF_ONE, VERSION};
+use crate::line::{INITIATION, VERSION};
 use crate::running::play::Act;
 use crate::running::plays::{OPENED_FIRST, Play, ServeMode};
 
@@ -40,7 +40,7 @@ pub static PLAYS: [Play<'_>; 3] = [
             1,
             &[
                 (0, Act::Train),
-                (0, Act::Sends(INITIATION_OF_ONE)),
+                (0, Act::Sends(INITIATION)),
                 (0, Act::Hears(VERSION)),
                 (1, Act::Train),
                 (1, Act::Sends(SECOND_INITIATION)),
@@ -63,7 +63,7 @@ pub static PLAYS: [Play<'_>; 3] = [
             1,
             &[
                 (0, Act::Train),
-                (0, Act::Sends(INITIATION_OF_ONE)),
+                (0, Act::Sends(INITIATION)),
                 (0, Act::Sends(SECOND_ESTABLISHED)),
                 (0, Act::Sends(THIRD_TERMINATION)),
                 (0, Act::Sends(FOURTH_INITIATION)),
@@ -85,7 +85,7 @@ pub static PLAYS: [Play<'_>; 3] = [
             1,
             &[
                 (0, Act::Train),
-                (0, Act::Sends(INITIATION_OF_ONE)),
+                (0, Act::Sends(INITIATION)),
                 (0, Act::Sends(SECOND_ESTABLISHED)),
                 (0, Act::Sends(INITIATION_OF_TWO)),
                 (0, Act::Sends(THIRD_TERMINATION)),

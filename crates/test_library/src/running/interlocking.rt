@@ -1,6 +1,6 @@
 //! The control endpoint: the answers to its lines, and how it ends.
 
-use crate::running::line::{INITIATION_OF_ONE, VERSION};
+use crate::line::{INITIATION, VERSION};
 use crate::running::play::Act;
 use crate::running::plays::{OPENED_FIRST, Play, Seen, ServeMode};
 
@@ -68,7 +68,7 @@ pub static PLAYS: [Play<'_>; 4] = [
             1,
             &[
                 (0, Act::Train),
-                (0, Act::Sends(INITIATION_OF_ONE)),
+                (0, Act::Sends(INITIATION)),
                 (0, Act::Hears(VERSION)),
                 (1, Act::Control),
                 (1, Act::Asks("stop now\n", "")),
@@ -91,7 +91,7 @@ pub static PLAYS: [Play<'_>; 4] = [
                 (1, Act::Train),
                 (1, Act::Sends("9B0240")),
                 (1, Act::Ends),
-                (0, Act::Sends(INITIATION_OF_ONE)),
+                (0, Act::Sends(INITIATION)),
                 (0, Act::Takes(11)),
             ],
         )],

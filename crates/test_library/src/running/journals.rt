@@ -1,7 +1,7 @@
 //! Centres that keep journals: an event is written before its answer is sent, a full disk, and centres that go on from
 //! journals.
 
-use crate::running::line::{INITIATION_OF_ONE, VERSION};
+use crate::line::{INITIATION, VERSION};
 use crate::running::play::Act;
 use crate::running::plays::{Before, Journals, Play, Seen, ServeMode, Taken};
 
@@ -18,7 +18,7 @@ const EMPTY: Journals<'_> = Journals {
 // A start of train 1, registered at A, in section 2 of B. First the interlocking releases the section.
 const SET: Before<'_> = (1, Taken::Set);
 
-const INITIATED: Before<'_> = (2, Taken::Said(INITIATION_OF_ONE));
+const INITIATED: Before<'_> = (2, Taken::Said(INITIATION));
 
 const ESTABLISHED: Before<'_> = (3, Taken::Said("9F028000000080000040"));
 
@@ -52,7 +52,7 @@ pub static PLAYS: [Play<'_>; 6] = [
                 (0, Act::Asks("set A 1\n", "> set A 1\nA 1 Done\n")),
                 (0, Act::Written(&SET_1)),
                 (1, Act::Train),
-                (1, Act::Sends(INITIATION_OF_ONE)),
+                (1, Act::Sends(INITIATION)),
                 (1, Act::Hears(VERSION)),
                 (1, Act::Written(&OPENED)),
             ],

@@ -1,12 +1,11 @@
 //! The line of the tests.
 
-ghost use Rattle.std.specs.Prelude.{◌≤◌, length, IfOk};
-
 use crate::running::client::{Done, Missed};
-use rbc_line::Line;
 use std::alloc::Global;
 
-const THREE_CENTRES: &str = "nid_c = 5
+/// The line file of three centres: sections 0 and 1 of centre A, then section 2 of centre B, and section 3 of centre C.
+/// Train 1 is registered at A, train 2 at C.
+pub static THREE_CENTRES: &str = "nid_c = 5
 [[centre]]
 name = \"A\"
 nid_rbc = 1
@@ -35,30 +34,8 @@ registrar = \"C\"
 /// The number of the control endpoint.
 pub const CONTROL: usize = 3;
 
-/// Sections 0 and 1 of centre A, then section 2 of centre B, and section 3 of centre C. Train 1 is registered at A,
-/// train 2 at C.
-pub fn three_centres(alloc: Global) -> Result<Line, &'static str>
-    ensures { IfOk result (λ line. 2 ≤ length line.centres) }
-{
-    Line::from_toml(alloc, THREE_CENTRES)
-        .ok()
-        .ok_or("the line file is accepted")
-}
-
-// Train 1 opens its session.
-pub const INITIATION_OF_ONE: &str = "9B028000000040000040";
-
-// The first five of its ten bytes.
+// The first five of the ten bytes by which train 1 opens its session.
 pub const HALF_AN_INITIATION: &str = "9B02800000";
-
-// It establishes its session with T_TRAIN 2.
-pub const ESTABLISHED: &str = "9F028000000080000040";
-
-// The centre answers with its version.
-pub const VERSION: &str = "2002C00000005FFFFFE800";
-
-// It acknowledges train 2's mission.
-pub const ACCEPTED: &str = "2902800000009FFFFFE0";
 
 // Train 1 opens its session, starts its mission in section 0, and gives its train data: messages 155, 159, 157 and 129.
 // The centre answers with 11, 10 and 14 bytes.

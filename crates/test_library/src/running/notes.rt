@@ -1,7 +1,8 @@
 //! The notes of running centres: the missions and handovers that they report.
 
+use crate::line::{ESTABLISHED, INITIATION, VERSION};
 use crate::running::client::{Done, Missed, PATIENCE_S};
-use crate::running::line::{ESTABLISHED, INITIATION_OF_ONE, MISSION_OF_ONE, VERSION};
+use crate::running::line::MISSION_OF_ONE;
 use crate::running::play::{Act, send};
 use crate::running::plays::{Play, Seen, ServeMode};
 use serve_notes::{About, NoteCounts, Notes};
@@ -10,7 +11,7 @@ use std::fmt::Display;
 use std::net::TcpStream;
 use std::sync::atomic::{AtomicUsize, Ordering};
 use std::thread;
-use std::time::{Clock, Duration};
+use std::time::Duration;
 
 /// Counts the notes that have the texts of a play's first four comparisons.
 #[derive(Drop)]
@@ -34,12 +35,12 @@ impl NoteCounter {
     }
 
     /// Waits until a note has the text at this place.
-    pub fn wait_for<R: Clock>(&self, rt: &R, place: usize) -> Done<()> {
+    pub fn wait_for(&self, host: &HostRuntime, place: usize) -> Done<()> {
         for _ in 0..PATIENCE_S.saturating_mul(20) {
             if self.count(place) > 0 {
                 return Ok(());
             }
-            rest(rt);
+            rest(host);
         }
         Err(Missed::Note)
     }
@@ -86,8 +87,8 @@ impl Notes for NoteCounter {
 
 /// Train 1 reports from section 2, again and again from T_TRAIN 3 on, until a note has the text at this place. Its
 /// front is at 2 420 m, and its rear at 2 190 m. A report that arrives at B before the announcement has no effect.
-pub fn report_until_noted<R: Clock>(
-    rt: &R,
+pub fn report_until_noted(
+    host: &HostRuntime,
     alloc: Global,
     stream: &TcpStream,
     notes: &NoteCounter,
@@ -102,13 +103,13 @@ pub fn report_until_noted<R: Clock>(
             "8806800000{sixty_fourths:04X}000040010280A0330190500140051019001060"
         )?;
         send(alloc, stream, &digits)?;
-        rest(rt);
+        rest(host);
     }
     Err(Missed::Note)
 }
 
-fn rest<R: Clock>(rt: &R) {
-    thread::sleep(rt, Duration::from_millis(50));
+fn rest(host: &HostRuntime) {
+    thread::sleep(host, Duration::from_millis(50));
 }
 
 // Train 1 ends its mission at that place, with T_TRAIN 2000.
@@ -133,7 +134,7 @@ pub static PLAYS: [Play<'_>; 1] = [
                 (1, Act::Takes(11 + 10 + 14)),
                 (1, Act::Crosses),
                 (2, Act::SecondTrain),
-                (2, Act::Sends(INITIATION_OF_ONE)),
+                (2, Act::Sends(INITIATION)),
                 (2, Act::Hears(VERSION)),
                 (2, Act::Sends(ESTABLISHED)),
                 (2, Act::Reports(2)),

@@ -1,9 +1,8 @@
 //! The options of `serve`. They bound the messages of a train, report shut sections and the use of logs and links, and
 //! bind a train to a connection.
 
-use crate::running::line::{
-    ESTABLISHED, INITIATION_OF_ONE, MISSION_OF_ONE, REQUEST_OF_ONE, VERSION,
-};
+use crate::line::{ESTABLISHED, INITIATION, VERSION};
+use crate::running::line::{MISSION_OF_ONE, REQUEST_OF_ONE};
 use crate::running::play::Act;
 use crate::running::plays::{OPENED_FIRST, Play, Seen, ServeMode};
 
@@ -35,7 +34,7 @@ pub static PLAYS: [Play<'_>; 3] = [
                 (0, Act::Sends(ESTABLISHED)),
                 (0, Act::Ends),
                 (1, Act::Train),
-                (1, Act::Sends(INITIATION_OF_ONE)),
+                (1, Act::Sends(INITIATION)),
                 (1, Act::Hears(VERSION)),
                 (2, Act::Train),
                 (2, Act::Sends(ESTABLISHED)),

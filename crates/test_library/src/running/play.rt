@@ -8,8 +8,7 @@ use crate::running::railway::Addresses;
 use crate::running::sheet::Paper;
 use crate::running::sinks::ask_until_both_come;
 use std::alloc::Global;
-use std::net::{Net, SocketAddr, TcpListener, TcpStream};
-use std::thread::Threads;
+use std::net::{SocketAddr, TcpStream};
 use std::time::Clock;
 
 /// A step of one connection, or a comparison beside the connections.
@@ -60,6 +59,7 @@ pub type Round<'a> = (u32, &'a [Step<'a>]);
 /// The centres at which steps are played.
 #[derive(Clone, Copy)]
 pub struct Stage<'a> {
+    pub host: &'a HostRuntime,
     pub alloc: Global,
     pub addresses: Addresses,
     /// The journal of centre A.
@@ -70,35 +70,26 @@ pub struct Stage<'a> {
 }
 
 /// Plays the rounds.
-pub fn play_rounds<R: Threads + Sync + Net<Stream = TcpStream, Listener = TcpListener> + Clock>(
-    rt: &R,
-    stage: Stage<'_>,
-    rounds: &[Round<'_>],
-) -> Done<()> {
+pub fn play_rounds(stage: Stage<'_>, rounds: &[Round<'_>]) -> Done<()> {
     for (times, steps) in rounds {
         for turn in 0..*times {
-            play_once(rt, stage, turn, steps)?;
+            play_once(stage, turn, steps)?;
         }
     }
     Ok(())
 }
 
-fn play_once<R: Threads + Sync + Net<Stream = TcpStream, Listener = TcpListener> + Clock>(
-    rt: &R,
-    stage: Stage<'_>,
-    turn: u32,
-    steps: &[Step<'_>],
-) -> Done<()> {
+fn play_once(stage: Stage<'_>, turn: u32, steps: &[Step<'_>]) -> Done<()> {
     let mut streams = Vec::new(stage.alloc);
     for (number, act) in steps {
         match endpoint_of(stage.addresses, *act) {
             Some(endpoint) => streams
-                .push(connect(rt, endpoint)?)
+                .push(connect(stage.host, endpoint)?)
                 .ok()
                 .ok_or(Missed::Memory)?,
             None => match streams.get(*number) {
-                Some(stream) => done(rt, stage, turn, stream, *act)?,
-                None => done_beside(rt, stage, *act)?,
+                Some(stream) => done(stage, turn, stream, *act)?,
+                None => done_beside(stage, *act)?,
             },
         }
     }
@@ -115,19 +106,19 @@ fn endpoint_of(addresses: Addresses, act: Act<'_>) -> Option<SocketAddr> {
     }
 }
 
-fn done<R: Threads + Sync + Net<Stream = TcpStream, Listener = TcpListener> + Clock>(
-    rt: &R,
-    stage: Stage<'_>,
-    turn: u32,
-    stream: &TcpStream,
-    act: Act<'_>,
-) -> Done<()> {
+fn done(stage: Stage<'_>, turn: u32, stream: &TcpStream, act: Act<'_>) -> Done<()> {
     match act {
         Act::Asks(said, wanted) => answers(stage.alloc, stream, said, wanted),
         Act::Sends(digits) => send(stage.alloc, stream, digits),
         Act::Opens(count) => open_sessions(stage.alloc, stream, turn.saturating_mul(count), count),
-        Act::Crosses => ask_until_both_come(rt, stage.alloc, stream),
-        Act::Reports(place) => report_until_noted(rt, stage.alloc, stream, stage.notes, place),
+        Act::Crosses => ask_until_both_come(stage.host, stage.alloc, stream),
+        Act::Reports(place) => report_until_noted(
+            stage.host,
+            stage.alloc,
+            stream,
+            stage.notes,
+            place,
+        ),
         Act::Hears(digits) => hear(stage.alloc, stream, digits),
         Act::Takes(count) => {
             heard(stage.alloc, stream, count)?;
@@ -135,43 +126,39 @@ fn done<R: Threads + Sync + Net<Stream = TcpStream, Listener = TcpListener> + Cl
         }
         Act::Ends if !is_ended(stream) => Err(Missed::StillOpen),
         Act::Ends => Ok(()),
-        _ => done_beside(rt, stage, act),
+        _ => done_beside(stage, act),
     }
 }
 
 // A step of no connection, or a comparison.
-fn done_beside<R: Threads + Sync + Net<Stream = TcpStream, Listener = TcpListener> + Clock>(
-    rt: &R,
-    stage: Stage<'_>,
-    act: Act<'_>,
-) -> Done<()> {
+fn done_beside(stage: Stage<'_>, act: Act<'_>) -> Done<()> {
     match act {
-        Act::StartsOverTwo => start_over_two(rt, stage.alloc, stage.addresses),
-        Act::Lasts(least) => lasts(rt, stage.begun, least),
+        Act::StartsOverTwo => start_over_two(stage.host, stage.alloc, stage.addresses),
+        Act::Lasts(least) => lasts(stage.host, stage.begun, least),
         Act::Written(entries) => match stage.journal.has(stage.alloc, entries)? {
             true => Ok(()),
             false => Err(Missed::Entry),
         },
-        Act::Fills(length) => stage.journal.fills(rt, length),
+        Act::Fills(length) => stage.journal.fills(stage.host, length),
         Act::HasRoom(room) => {
             stage.journal.allow(room);
             Ok(())
         }
-        Act::Noted(place) => stage.notes.wait_for(rt, place),
+        Act::Noted(place) => stage.notes.wait_for(stage.host, place),
         _ => Err(Missed::Endpoint),
     }
 }
 
-fn lasts<R: Clock>(rt: &R, begun: u64, least: u64) -> Done<()> {
-    if now(rt)?.saturating_sub(begun) < least {
+fn lasts(host: &HostRuntime, begun: u64, least: u64) -> Done<()> {
+    if now(host)?.saturating_sub(begun) < least {
         return Err(Missed::Clock);
     }
     Ok(())
 }
 
 /// The time in milliseconds.
-pub fn now<R: Clock>(rt: &R) -> Done<u64> {
-    let now = rt.monotonic().ok().ok_or(Missed::Clock)?;
+pub fn now(host: &HostRuntime) -> Done<u64> {
+    let now = host.monotonic().ok().ok_or(Missed::Clock)?;
     Ok(
         now.as_secs()
             .saturating_mul(1000)

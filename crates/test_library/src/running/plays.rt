@@ -1,7 +1,8 @@
 //! Plays at running centres: the steps of peers, and the comparisons after the centres have ended.
 
+use crate::line::line_of;
 use crate::running::client::{Done, Missed};
-use crate::running::line::three_centres;
+use crate::running::line::THREE_CENTRES;
 use crate::running::notes::NoteCounter;
 use crate::running::play::Round;
 use crate::running::railway::{audited, served};
@@ -12,7 +13,6 @@ use crate::running::{
 use cli_commands::auditing::Verdict;
 use rbc_line::Line;
 use std::alloc::Global;
-use std::net::{Net, TcpListener, TcpStream};
 use std::sync::Wait;
 use std::sync::atomic::AtomicUsize;
 use std::test::*;
@@ -97,7 +97,6 @@ pub const OPENED_FIRST: Seen<'_> = Seen::Begins("> train A 9B028000000040000040\
 
 #[test]
 fn each_play_ends_as_it_should(rt: HostRuntime) -> Result<(), Fail> {
-    let alloc = rt.alloc();
     for plays in [
         &initiations::PLAYS[..],
         &interlocking::PLAYS[..],
@@ -108,22 +107,25 @@ fn each_play_ends_as_it_should(rt: HostRuntime) -> Result<(), Fail> {
         &notes::PLAYS[..],
         &order::PLAYS[..],
     ] {
-        end_as_they_should(&rt, alloc, plays)?;
+        end_as_they_should(&rt, &rt, plays)?;
     }
     Ok(())
 }
 
 #[test]
 fn each_play_with_journals_ends_as_it_should(rt: HostRuntime) -> Result<(), Fail> {
-    end_as_they_should(&rt, rt.alloc(), &journals::PLAYS)
+    end_as_they_should(&rt, &rt, &journals::PLAYS)
 }
 
-// Reports the first play that does not end as expected, by its name and its fault.
-fn end_as_they_should<
-    R: Threads + Wait + Sync + Net<Stream = TcpStream, Listener = TcpListener> + Clock,
->(rt: &R, alloc: Global, plays: &'static [Play<'static>]) -> Result<(), Fail> {
+// Reports the first play that does not end as expected, by its name and its fault. Threads wait by `rt`, and peers are
+// at `host`.
+fn end_as_they_should<R: Threads + Wait + Sync + Clock>(
+    rt: &R,
+    host: &HostRuntime,
+    plays: &'static [Play<'static>],
+) -> Result<(), Fail> {
     for play in plays {
-        if let Err(missed) = end_so(rt, alloc, play) {
+        if let Err(missed) = end_so(rt, host, play) {
             let name = play.name;
             return Err(Fail::new(format_args!("{name}: {missed:?}")));
         }
@@ -131,11 +133,12 @@ fn end_as_they_should<
     Ok(())
 }
 
-fn end_so<R: Threads + Wait + Sync + Net<Stream = TcpStream, Listener = TcpListener> + Clock>(
+fn end_so<R: Threads + Wait + Sync + Clock>(
     rt: &R,
-    alloc: Global,
+    host: &HostRuntime,
     play: &'static Play<'static>,
 ) -> Done<()> {
+    let alloc = host.alloc();
     let of_a = cells(alloc)?;
     let of_b = cells(alloc)?;
     let of_c = cells(alloc)?;
@@ -159,18 +162,20 @@ fn end_so<R: Threads + Wait + Sync + Net<Stream = TcpStream, Listener = TcpListe
             room: &room_c,
         },
     };
-    played_so(rt, alloc, play, papers)
+    played_so(rt, host, play, papers)
 }
 
-fn played_so<R: Threads + Wait + Sync + Net<Stream = TcpStream, Listener = TcpListener> + Clock>(
+fn played_so<R: Threads + Wait + Sync + Clock>(
     rt: &R,
-    alloc: Global,
+    host: &HostRuntime,
     play: &'static Play<'static>,
     papers: Papers<'_>,
 ) -> Done<()> {
-    let line = three_centres(alloc).ok().ok_or(Missed::Memory)?;
+    let alloc = host.alloc();
+    let line = line_of(alloc, THREE_CENTRES).ok().ok_or(Missed::Memory)?;
     let notes = NoteCounter::new(play.seen);
     let scene = Scene {
+        host,
         alloc,
         line: &line,
         play,
@@ -192,6 +197,7 @@ pub struct Papers<'a> {
 /// A play, its line, its journals and its notes.
 #[derive(Clone, Copy)]
 pub struct Scene<'a> {
+    pub host: &'a HostRuntime,
     pub alloc: Global,
     pub line: &'a Line,
     pub play: &'static Play<'static>,
@@ -218,18 +224,30 @@ fn each_seen(scene: Scene<'_>, printed: &str, all: &[Seen<'_>]) -> Done<()> {
 
 fn is_seen(scene: Scene<'_>, printed: &str, seen: Seen<'_>) -> Done<bool> {
     match seen {
-        Seen::Prints(text) => Ok(printed == text),
-        Seen::Begins(text) => Ok(printed.starts_with(text)),
-        Seen::Has(text) => Ok(printed.contains(text)),
-        Seen::Counts(text, count) => Ok(printed.matches(text).count() == count),
-        Seen::Audits(least, most) => match audited(scene.alloc, scene.line, printed)? {
-            Verdict::Equal { events } => Ok(least <= events && events <= most),
-            Verdict::Differs { .. } => Ok(false),
-        },
+        Seen::Audits(least, most) => has_events(scene, printed, least, most),
         Seen::OfA(entries) => scene.papers.a.has(scene.alloc, entries),
         Seen::OfB(entries) => scene.papers.b.has(scene.alloc, entries),
         Seen::LengthOfA(length) => Ok(scene.papers.a.length() == length),
+        _ => Ok(is_print(printed, seen)),
+    }
+}
+
+fn is_print(printed: &str, seen: Seen<'_>) -> bool {
+    match seen {
+        Seen::Prints(text) => printed == text,
+        Seen::Begins(text) => printed.starts_with(text),
+        Seen::Has(text) => printed.contains(text),
+        Seen::Counts(text, count) => printed.matches(text).count() == count,
         // The notes are compared after all others.
-        Seen::Noted(..) => Ok(true),
+        Seen::Noted(..) => true,
+        _ => false,
+    }
+}
+
+// Whether an audit finds the print equal, with a number of events within these.
+fn has_events(scene: Scene<'_>, printed: &str, least: u64, most: u64) -> Done<bool> {
+    match audited(scene.alloc, scene.line, printed)? {
+        Verdict::Equal { events } => Ok(least <= events && events <= most),
+        Verdict::Differs { .. } => Ok(false),
     }
 }

@@ -11,7 +11,7 @@ use rbc_world::WorldEvent;
 use serve_journal::JournalFile;
 use serve_line::{Endpoints, NoNotes, Record, ServeOptions, serve};
 use std::alloc::Global;
-use std::net::{Net, SocketAddr, TcpListener, TcpStream};
+use std::net::SocketAddr;
 use std::sync::Wait;
 use std::thread;
 use std::thread::Threads;
@@ -27,18 +27,15 @@ pub struct Addresses {
 }
 
 /// Serves the line during the play, and then sends `stop`. The result is the exit status of the centres, and the print.
-pub fn served<R: Threads + Wait + Sync + Net<Stream = TcpStream, Listener = TcpListener> + Clock>(
-    rt: &R,
-    scene: Scene<'_>,
-) -> Done<(u8, Vec<u8>)> {
-    let endpoints = Endpoints::open(rt, scene.alloc, scene.line, 0, &NoNotes)
+pub fn served<R: Threads + Wait + Sync + Clock>(rt: &R, scene: Scene<'_>) -> Done<(u8, Vec<u8>)> {
+    let endpoints = Endpoints::open(scene.host, scene.alloc, scene.line, 0, &NoNotes)
         .ok()
         .ok_or(Missed::Endpoint)?;
     let addresses = addresses_of(&endpoints)?;
     let (served, played) = thread::join(
         rt,
         || ended(rt, scene, endpoints),
-        || played(rt, scene, addresses),
+        || played(scene, addresses),
     );
     match played {
         Ok(()) => served,
@@ -64,24 +61,21 @@ fn address_of(endpoints: &Endpoints, number: usize) -> Done<SocketAddr> {
     }
 }
 
-fn played<R: Threads + Sync + Net<Stream = TcpStream, Listener = TcpListener> + Clock>(
-    rt: &R,
-    scene: Scene<'_>,
-    addresses: Addresses,
-) -> Done<()> {
+fn played(scene: Scene<'_>, addresses: Addresses) -> Done<()> {
     let stage = Stage {
+        host: scene.host,
         alloc: scene.alloc,
         addresses,
         journal: scene.papers.a,
         notes: scene.notes,
-        begun: match now(rt) {
+        begun: match now(scene.host) {
             Ok(begun) => begun,
             Err(_) => u64::MAX,
         },
     };
-    let played = play_rounds(rt, stage, scene.play.rounds);
+    let played = play_rounds(stage, scene.play.rounds);
     // If the centres have ended already, the endpoint is closed, or closes before it takes the line.
-    if let Ok(control) = connect(rt, addresses.control) {
+    if let Ok(control) = connect(scene.host, addresses.control) {
         let _ = say(&control, b"stop\n");
     }
     played

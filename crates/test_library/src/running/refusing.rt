@@ -1,7 +1,8 @@
 //! The answers to the interlocking when a centre can take no more events.
 
+use crate::line::line_of;
 use crate::running::client::{Done, Missed, answers, connect};
-use crate::running::line::three_centres;
+use crate::running::line::THREE_CENTRES;
 use rbc_line::Line;
 use rbc_node::{Node, Open};
 use rbc_world::{Body, Event, Frame};
@@ -13,7 +14,7 @@ use serve_line::state::{
 use serve_line::status::MentionOrder;
 use serve_line::{Endpoints, NoNotes, ServeOptions};
 use std::alloc::Global;
-use std::net::{Net, SocketAddr, TcpListener, TcpStream};
+use std::net::SocketAddr;
 use std::sync::{Mutex, Wait};
 use std::test::*;
 use std::thread;
@@ -48,8 +49,8 @@ fn nodes_at_the_end<R: Wait>(rt: &R, alloc: Global, line: &Line) -> Done<Vec<Nod
 }
 
 // Sends the lines over one connection, each after the answer to the previous one.
-fn ask_all<R: Net<Stream = TcpStream>>(rt: &R, alloc: Global, endpoint: SocketAddr) -> Done<()> {
-    let stream = connect(rt, endpoint)?;
+fn ask_all(host: &HostRuntime, alloc: Global, endpoint: SocketAddr) -> Done<()> {
+    let stream = connect(host, endpoint)?;
     for (said, wanted) in &LINES {
         answers(alloc, &stream, said, wanted)?;
     }
@@ -57,8 +58,9 @@ fn ask_all<R: Net<Stream = TcpStream>>(rt: &R, alloc: Global, endpoint: SocketAd
 }
 
 // The same, while the control endpoint is open. It is the last of the endpoints.
-fn ask_at_the_door<R: Threads + Wait + Sync + Net<Stream = TcpStream> + Clock>(
+fn ask_at_the_door<R: Threads + Wait + Sync + Clock>(
     rt: &R,
+    host: &HostRuntime,
     server: &Server<'_>,
 ) -> Done<()> {
     let endpoint = server.endpoints.last().ok_or(Missed::Endpoint)?;
@@ -67,7 +69,7 @@ fn ask_at_the_door<R: Threads + Wait + Sync + Net<Stream = TcpStream> + Clock>(
         rt,
         || run_endpoint(rt, server, &NoNotes, endpoint),
         || {
-            let asked = ask_all(rt, server.alloc, address);
+            let asked = ask_all(host, server.alloc, address);
             server.stop();
             asked
         },
@@ -78,24 +80,27 @@ fn ask_at_the_door<R: Threads + Wait + Sync + Net<Stream = TcpStream> + Clock>(
 /// The centres of a line, and their endpoints.
 #[derive(Clone, Copy)]
 struct Centres<'a> {
+    host: &'a HostRuntime,
     alloc: Global,
     line: &'a Line,
     nodes: &'a [Node],
     endpoints: &'a [Endpoint],
 }
 
-fn asked<R: Threads + Wait + Sync + Net<Stream = TcpStream, Listener = TcpListener> + Clock>(
+fn asked<R: Threads + Wait + Sync + Clock>(
     rt: &R,
-    alloc: Global,
+    host: &HostRuntime,
     line: &Line,
     nodes: &[Node],
 ) -> Result<(), Fail> {
-    let endpoints = Endpoints::open(rt, alloc, line, 0, &NoNotes)
+    let alloc = host.alloc();
+    let endpoints = Endpoints::open(host, alloc, line, 0, &NoNotes)
         .ok()
         .ok_or(Missed::Endpoint)?;
     let (listening, socket, _) = endpoints.all();
     let endpoints = endpoints_of(alloc, line, nodes, listening, socket)?;
     let centres = Centres {
+        host,
         alloc,
         line,
         nodes,
@@ -104,10 +109,7 @@ fn asked<R: Threads + Wait + Sync + Net<Stream = TcpStream, Listener = TcpListen
     asked_of(rt, centres)
 }
 
-fn asked_of<R: Threads + Wait + Sync + Net<Stream = TcpStream> + Clock>(
-    rt: &R,
-    centres: Centres<'_>,
-) -> Result<(), Fail> {
+fn asked_of<R: Threads + Wait + Sync + Clock>(rt: &R, centres: Centres<'_>) -> Result<(), Fail> {
     let wakers = wakers_of(centres.alloc, centres.line)?;
     let connections = connections_of(centres.alloc, centres.line, &wakers, false)?;
     let sinks = sinks_of(
@@ -121,7 +123,7 @@ fn asked_of<R: Threads + Wait + Sync + Net<Stream = TcpStream> + Clock>(
     asked_with(rt, centres, &wakers, &sinks)
 }
 
-fn asked_with<'a, R: Threads + Wait + Sync + Net<Stream = TcpStream> + Clock>(
+fn asked_with<'a, R: Threads + Wait + Sync + Clock>(
     rt: &R,
     centres: Centres<'a>,
     wakers: &'a [Vec<Parker>],
@@ -142,12 +144,12 @@ fn asked_with<'a, R: Threads + Wait + Sync + Net<Stream = TcpStream> + Clock>(
         state: &state,
         options: ServeOptions::default(),
     };
-    Ok(ask_at_the_door(rt, &server)?)
+    Ok(ask_at_the_door(rt, centres.host, &server)?)
 }
 
 #[test]
 fn an_event_that_is_refused_is_answered_by_its_fault(rt: HostRuntime) -> Result<(), Fail> {
-    let line = three_centres(rt.alloc())?;
+    let line = line_of(rt.alloc(), THREE_CENTRES)?;
     let nodes = nodes_at_the_end(&rt, rt.alloc(), &line)?;
-    asked(&rt, rt.alloc(), &line, &nodes)
+    asked(&rt, &rt, &line, &nodes)
 }

@@ -5,7 +5,7 @@ use serve_journal::DurableFile;
 use std::alloc::{AllocError, Global};
 use std::io::ErrorKind;
 use std::sync::atomic::{AtomicU8, AtomicUsize, Ordering};
-use std::time::{Clock, Duration};
+use std::time::Duration;
 use std::{io, thread};
 
 /// Cells for a file of at most 256 bytes.
@@ -54,13 +54,13 @@ impl<'a> Paper<'a> {
     }
 
     /// Waits until it has this many bytes, and then a while, so that the centre notices the full file.
-    pub fn fills<R: Clock>(&self, rt: &R, length: usize) -> Done<()> {
+    pub fn fills(&self, host: &HostRuntime, length: usize) -> Done<()> {
         for _ in 0..PATIENCE_S.saturating_mul(1000) {
             if self.length() == length {
-                thread::sleep(rt, Duration::from_millis(400));
+                thread::sleep(host, Duration::from_millis(400));
                 return Ok(());
             }
-            thread::sleep(rt, Duration::from_millis(1));
+            thread::sleep(host, Duration::from_millis(1));
         }
         Err(Missed::Entry)
     }

@@ -1,14 +1,15 @@
 //! The delivery of a centre's answers: each goes to its train, over the connection that serves this train.
 
+use crate::line::{INITIATION, VERSION};
 use crate::running::client::{Done, Missed, heard, say};
-use crate::running::line::{INITIATION_OF_ONE, MISSION_OF_ONE, REQUEST_OF_ONE, VERSION, bytes_of};
+use crate::running::line::{MISSION_OF_ONE, REQUEST_OF_ONE, bytes_of};
 use crate::running::play::Act;
 use crate::running::plays::{Play, Seen, ServeMode};
 use rbc_msgs::{TrackBody, TrackMsg, decode_track};
 use std::alloc::Global;
 use std::net::TcpStream;
 use std::thread;
-use std::time::{Clock, Duration};
+use std::time::Duration;
 
 // The most requests of the train for its authority.
 const REQUESTS: u32 = 1_000;
@@ -79,7 +80,7 @@ pub static PLAYS: [Play<'_>; 3] = [
                 (0, Act::Sends("9B028000000080000040")),
                 (0, Act::Hears(VERSION)),
                 (1, Act::Train),
-                (1, Act::Sends(INITIATION_OF_ONE)),
+                (1, Act::Sends(INITIATION)),
                 (1, Act::Sends("9B0240")),
                 (1, Act::Ends),
                 (0, Act::Sends("9B0280000000C0000040")),
@@ -95,7 +96,7 @@ pub static PLAYS: [Play<'_>; 3] = [
 
 /// Asks for the authority until it reaches over the border. Message 3 of that step is followed by message 24 with the
 /// next T_TRAIN.
-pub fn ask_until_both_come<R: Clock>(rt: &R, alloc: Global, train: &TcpStream) -> Done<()> {
+pub fn ask_until_both_come(host: &HostRuntime, alloc: Global, train: &TcpStream) -> Done<()> {
     let mut before = None;
     for k in 0..REQUESTS {
         say(train, &request(alloc, 5 + k)?)?;
@@ -107,7 +108,7 @@ pub fn ask_until_both_come<R: Clock>(rt: &R, alloc: Global, train: &TcpStream) -
             ),
             _ => return Err(Missed::OtherAnswer),
         }
-        thread::sleep(rt, Duration::from_millis(5));
+        thread::sleep(host, Duration::from_millis(5));
     }
     Err(Missed::NoAnswer)
 }

@@ -1,6 +1,6 @@
 //! Endpoints whose slots are all taken: the connection that makes room for a new one.
 
-use crate::running::line::{INITIATION_OF_ONE, VERSION};
+use crate::line::{INITIATION, VERSION};
 use crate::running::play::Act;
 use crate::running::plays::{OPENED_FIRST, Play, Seen, ServeMode};
 
@@ -50,7 +50,7 @@ pub static PLAYS: [Play<'_>; 3] = [
             1,
             &[
                 (0, Act::Train),
-                (0, Act::Sends(INITIATION_OF_ONE)),
+                (0, Act::Sends(INITIATION)),
                 (0, Act::Hears(VERSION)),
                 (1, Act::Train),
                 (2, Act::Train),

@@ -1,18 +1,18 @@
 //! The Unix socket of the interlocking: its file, the files that are removed for it, and a run over it.
 
+use crate::line::line_of;
 use crate::running::client::{Done, Missed};
 use crate::running::files::name_of;
-use crate::running::line::three_centres;
+use crate::running::line::THREE_CENTRES;
 use rbc_line::Line;
 use serve_journal::SystemFile;
 use serve_line::state::listen_at_path;
 use serve_line::{Endpoints, NoNotes, Record, ServeOptions, SocketFault, free_path, serve};
 use std::alloc::Global;
 use std::io::{Read, Write};
-use std::net::{IpAddr, Ipv4Addr, Net, SocketAddr, TcpListener, TcpStream};
+use std::net::{IpAddr, Ipv4Addr, SocketAddr};
 use std::os::unix::fs::MetadataExt;
 use std::os::unix::net::UnixStream;
-use std::rt::Files;
 use std::sync::Wait;
 use std::test::*;
 use std::thread::Threads;
@@ -83,8 +83,10 @@ fn a_socket_has_one_listener_and_is_for_its_owner(rt: HostRuntime) -> Result<(),
 }
 
 // The interlocking releases a section, and is answered. Then it sends `stop`, and its connection ends.
-fn ask<R: Net>(rt: &R, path: &str) -> Done<()> {
-    let mut stream = UnixStream::connect(rt, path).ok().ok_or(Missed::Endpoint)?;
+fn ask(host: &HostRuntime, path: &str) -> Done<()> {
+    let mut stream = UnixStream::connect(host, path)
+        .ok()
+        .ok_or(Missed::Endpoint)?;
     let _ = stream.set_read_timeout(Some(Duration::from_secs(20)));
     let answered = release(&mut stream);
     stream.write_all(b"stop\n").ok().ok_or(Missed::Taking)?;
@@ -107,25 +109,39 @@ fn release(stream: &mut UnixStream) -> Done<()> {
     stream.read_exact(&mut end).ok().ok_or(Missed::NoAnswer)
 }
 
-fn printed_over_a_socket<
-    R: Threads + Wait + Sync + Net<Stream = TcpStream, Listener = TcpListener> + Clock + Files,
->(rt: &R, alloc: Global, line: &Line, path: &str) -> Done<Vec<u8>> {
+// The centres and the socket of the interlocking, at any ports and at this path.
+fn opened(host: &HostRuntime, line: &Line, path: &str) -> Done<Endpoints> {
     let any_port = SocketAddr::new(IpAddr::V4(Ipv4Addr::LOCALHOST), 0);
-    let endpoints = Endpoints::open_centres(rt, alloc, line, any_port, &NoNotes)
-        .ok()
-        .ok_or(Missed::Endpoint)?;
-    let endpoints = endpoints
-        .and_socket(rt, alloc, path, &NoNotes)
-        .ok()
-        .ok_or(Missed::Endpoint)?;
+    let alloc = host.alloc();
+    let Ok(endpoints) = Endpoints::open_centres(host, alloc, line, any_port, &NoNotes) else {
+        return Err(Missed::Endpoint);
+    };
+    match endpoints.and_socket(host, alloc, path, &NoNotes) {
+        Ok(endpoints) => Ok(endpoints),
+        Err(_) => Err(Missed::Endpoint),
+    }
+}
+
+fn printed_over_a_socket<R: Threads + Wait + Sync + Clock>(
+    rt: &R,
+    host: &HostRuntime,
+    line: &Line,
+    path: &str,
+) -> Done<Vec<u8>> {
+    let endpoints = opened(host, line, path)?;
+    let alloc = host.alloc();
     let (printed, asked) = thread::join(
         rt,
         || printed(rt, alloc, line, endpoints),
-        || ask(rt, path),
+        || ask(host, path),
     );
-    free_path(rt, path).ok().ok_or(Missed::Endpoint)?;
-    asked?;
-    printed
+    if free_path(host, path).is_err() {
+        return Err(Missed::Endpoint);
+    }
+    match asked {
+        Ok(()) => printed,
+        Err(missed) => Err(missed),
+    }
 }
 
 fn printed<R: Threads + Wait + Sync + Clock>(
@@ -154,8 +170,8 @@ fn printed<R: Threads + Wait + Sync + Clock>(
 #[test]
 fn the_interlocking_is_served_over_a_socket(rt: HostRuntime) -> Result<(), Fail> {
     let path = name_of(&rt, "served.socket")?;
-    let line = three_centres(rt.alloc())?;
-    let printed = printed_over_a_socket(&rt, rt.alloc(), &line, path.as_str())?;
+    let line = line_of(rt.alloc(), THREE_CENTRES)?;
+    let printed = printed_over_a_socket(&rt, &rt, &line, path.as_str())?;
     let wanted =
         "> set A 1\nA 1 Done\nsection 0 A shut\nsection 1 A open\nsection 2 B shut\nsection 3 C shut\n";
     let is_there = fs::exists(&rt, path.as_str())?;

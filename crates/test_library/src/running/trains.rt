@@ -1,6 +1,6 @@
 //! Trains that are served side by side, while a right arrives from another centre.
 
-use crate::running::line::{ACCEPTED, INITIATION_OF_ONE, VERSION};
+use crate::line::{ACCEPTED, INITIATION, VERSION};
 use crate::running::play::Act;
 use crate::running::plays::{Play, Seen, ServeMode};
 
@@ -31,7 +31,7 @@ pub static PLAYS: [Play<'_>; 1] = [
                             "9B0280000000400000809F0280000000800000809D0680000000C00000900040A0280CA096140050014406400418",
                         ),
                     ),
-                    (1, Act::Sends(INITIATION_OF_ONE)),
+                    (1, Act::Sends(INITIATION)),
                     (0, Act::Hears(VERSION)),
                     (0, Act::Hears(ACCEPTED)),
                     (1, Act::Hears(VERSION)),

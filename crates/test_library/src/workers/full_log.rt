@@ -1,6 +1,6 @@
 //! A log that is full.
 
-use crate::line::{A, two_centres};
+use crate::line::{A, TWO_CENTRES, line_of};
 use rbc_log::{CentreLog, CommitFault};
 use rbc_world::Event;
 use std::alloc::Global;
@@ -11,7 +11,7 @@ const MOST_ENTRIES: usize = 1_000_000;
 
 // A log of A.
 fn log_of_a(alloc: Global) -> Result<CentreLog, Fail> {
-    let line = two_centres(alloc)?;
+    let line = line_of(alloc, TWO_CENTRES)?;
     Ok(CentreLog::new(alloc, &line, A)?)
 }
 
