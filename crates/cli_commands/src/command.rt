@@ -50,7 +50,7 @@ fn obey<'a, S: AsStr, F: Files, O: Write, E: Write>(
     err: &mut E,
 ) -> Result<(), Fault<'a>> {
     match requested(alloc, words)? {
-        Request::Version => Ok(tell(out, format_args!("rbcline {VERSION}"))?),
+        Request::Version => print_version(out),
         Request::Check { file } => check(alloc, file, files, out),
         Request::Run { file, script } => run(alloc, file, script, files, out),
         Request::Encode { fields, is_frame } => encode(alloc, fields, is_frame, files, out, err),
@@ -60,6 +60,10 @@ fn obey<'a, S: AsStr, F: Files, O: Write, E: Write>(
             Err(_) => Err(AllocError.into()),
         },
     }
+}
+
+fn print_version<O: Write>(out: &mut O) -> Result<(), Fault<'static>> {
+    Ok(tell(out, format_args!("rbcline {VERSION}"))?)
 }
 
 // Runs a command whose output is buffered.
@@ -108,39 +112,50 @@ fn do_task<'a, F: Files, O: Write, E: Write>(
     match task {
         Task::Script(text) => script_in_words(alloc, &given.line, text, files, out, err),
         Task::Storm { script, seed } => run_storm(alloc, &given.line, script, seed, files, out),
-        Task::Print(listing) => tell_part(print_journals(alloc, given, listing, files, out)?, err),
-        Task::Audit(printed) => tell_part(audit_printed(alloc, given, printed, files, out)?, err),
+        Task::Print(listing) => tell_part(print_journals(alloc, given, listing, files, out), err),
+        Task::Audit(printed) => tell_part(audit_printed(alloc, given, printed, files, out), err),
         Task::Watch(printed) => {
-            let has_event = watch_printed(alloc, given, printed, files, out, err)?;
-            note_lack(has_event, "no event", printed, err)
+            let done = watch_printed(alloc, given, printed, files, out, err);
+            note_lack(done, "no event", printed, err)
         }
         Task::Words(listing) => {
-            let is_told = tell_printed(alloc, given, listing, files, out)?;
-            note_untimed(&listing, files, err)?;
-            note_lack(is_told, "nothing of a run", listing.name, err)
+            let done = tell_printed(alloc, given, listing, files, out);
+            note_words(done, listing, files, err)
         }
         Task::Picture(drawing) => {
-            let has_event = draw_printed(alloc, given, drawing, files, out)?;
-            note_lack(has_event, "no event", drawing.printed, err)
+            let done = draw_printed(alloc, given, drawing, files, out);
+            note_lack(done, "no event", drawing.printed, err)
         }
         Task::Capture {
             printed,
             first_port,
         } => {
-            let has_message = capture_printed(alloc, given, printed, first_port, files, out)?;
-            note_lack(has_message, "no message", printed, err)
+            let done = capture_printed(alloc, given, printed, first_port, files, out);
+            note_lack(done, "no message", printed, err)
         }
     }
 }
 
+// Notes after `words` that the print has no times, and that it lacks a run.
+fn note_words<'a, F: Files, E: Write>(
+    done: Result<bool, Fault<'a>>,
+    listing: Listing<'a>,
+    files: &F,
+    err: &mut E,
+) -> Result<(), Fault<'a>> {
+    let is_told = done?;
+    note_untimed(&listing, files, err)?;
+    note_lack(Ok(is_told), "nothing of a run", listing.name, err)
+}
+
 // Notes that the file of a print lacks this, unless it has it: perhaps it is another file.
-fn note_lack<E: Write>(
-    has_it: bool,
+fn note_lack<'a, E: Write>(
+    has_it: Result<bool, Fault<'a>>,
     lack: &str,
     printed: &str,
     err: &mut E,
-) -> Result<(), Fault<'static>> {
-    if !has_it {
+) -> Result<(), Fault<'a>> {
+    if !has_it? {
         let note = format_args!(
             "rbcline: {lack} is in {printed}: is it a print of `run` or `serve`?"
         );
@@ -164,8 +179,11 @@ fn note_untimed<F: Files, E: Write>(
 }
 
 // Reports the part of the journals that was read, if a program writes them meanwhile.
-fn tell_part<E: Write>(part: Option<Part>, err: &mut E) -> Result<(), Fault<'static>> {
-    if let Some(part) = part {
+fn tell_part<'a, E: Write>(
+    part: Result<Option<Part>, Fault<'a>>,
+    err: &mut E,
+) -> Result<(), Fault<'a>> {
+    if let Some(part) = part? {
         tell(err, part)?;
     }
     Ok(())

@@ -60,21 +60,54 @@ fn given_bytes<'a, S: AsStr, F: Files>(
     words: &'a [S],
     files: &F,
 ) -> Result<Vec<u8>, Fault<'a>> {
+    match bytes_of_words(alloc, words)? {
+        Some(bytes) => Ok(bytes),
+        None => bytes_of_only_word(alloc, words, files),
+    }
+}
+
+// The bytes that are in the file which the only word names.
+fn bytes_of_only_word<'a, S: AsStr, F: Files>(
+    alloc: Global,
+    words: &'a [S],
+    files: &F,
+) -> Result<Vec<u8>, Fault<'a>> {
+    let word = faulty_word(words);
+    if count_of(words) == 1 {
+        bytes_of_file(alloc, word, files)
+    } else {
+        Err(Fault::NotHexadecimal(word))
+    }
+}
+
+// The bytes of the words in hexadecimal, if they are that.
+fn bytes_of_words<S: AsStr>(alloc: Global, words: &[S]) -> Result<Option<Vec<u8>>, AllocError> {
+    let text = joined(alloc, words)?;
+    bytes_in(alloc, text.as_str())
+}
+
+// The words besides the options, with a blank after each.
+fn joined<S: AsStr>(alloc: Global, words: &[S]) -> Result<String, AllocError> {
     let mut text = String::new(alloc);
-    let mut count = 0u32;
     for word in words.iter().skip(1) {
         let word = word.as_str();
         if !word.starts_with("--") {
             text.push_str(word)?;
             text.push_str(" ")?;
+        }
+    }
+    Ok(text)
+}
+
+// How many words there are besides the options.
+fn count_of<S: AsStr>(words: &[S]) -> u32 {
+    let mut count = 0u32;
+    for word in words.iter().skip(1) {
+        if !word.as_str().starts_with("--") {
             count = count.saturating_add(1);
         }
     }
-    match bytes_in(alloc, text.as_str())? {
-        Some(bytes) => Ok(bytes),
-        None if count == 1 => bytes_of_file(alloc, faulty_word(words), files),
-        None => Err(Fault::NotHexadecimal(faulty_word(words))),
-    }
+    count
 }
 
 // The first word that has another character than digits, or else the last word: then the number of digits is odd.

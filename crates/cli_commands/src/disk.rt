@@ -45,19 +45,31 @@ impl<R: rt::Files<File = File> + AllocGlobal> Files for Disk<'_, R> {
     fn each_row<T: Rows>(&self, alloc: Global, name: &str, rows: &mut T) -> Option<()> {
         let file = File::open(self.0, path_of(name)).ok()?;
         let mut reader = BufReader::new(alloc, file).ok()?;
-        let mut row = Vec::new(alloc);
-        for _ in 0..u64::MAX {
-            row.clear();
-            if reader.read_until(b'\n', &mut row).ok()? == 0 {
-                break;
-            }
-            if row.last() == Some(&b'\n') {
-                row.pop();
-            }
-            rows.row(from_utf8(row.as_slice()).ok()?);
-        }
-        Some(())
+        each_row_of(alloc, &mut reader, rows)
     }
+}
+
+fn each_row_of<B: BufRead, T: Rows>(alloc: Global, reader: &mut B, rows: &mut T) -> Option<()> {
+    let mut row = Vec::new(alloc);
+    for _ in 0..u64::MAX {
+        if !read_row(reader, &mut row)? {
+            break;
+        }
+        rows.row(from_utf8(row.as_slice()).ok()?);
+    }
+    Some(())
+}
+
+// Reads the next line without its line feed. Returns whether there is one; none if the read failed.
+fn read_row<B: BufRead>(reader: &mut B, row: &mut Vec<u8>) -> Option<bool> {
+    row.clear();
+    if reader.read_until(b'\n', row).ok()? == 0 {
+        return Some(false);
+    }
+    if row.last() == Some(&b'\n') {
+        row.pop();
+    }
+    Some(true)
 }
 
 // Whether the file has an end.

@@ -21,11 +21,18 @@ pub fn encode<'a, F: Files, O: Write, E: Write>(
     };
     match print_bytes(alloc, text.as_str(), is_frame, out) {
         Ok(()) => Ok(()),
-        Err(EncodeFault::Memory) => Err(AllocError.into()),
-        Err(EncodeFault::Write) => Err(Fault::Write),
-        Err(EncodeFault::Line(row, words)) => {
-            writeln!(err, "line {row}: {words}")?;
-            Err(Fault::CannotRead(fields))
-        }
+        Err(fault) => Err(fault_of(fields, fault, err)),
+    }
+}
+
+// The fault of the command. A faulty line of the file is named.
+fn fault_of<'a, E: Write>(fields: &'a str, fault: EncodeFault, err: &mut E) -> Fault<'a> {
+    match fault {
+        EncodeFault::Memory => AllocError.into(),
+        EncodeFault::Write => Fault::Write,
+        EncodeFault::Line(row, words) => match writeln!(err, "line {row}: {words}") {
+            Ok(()) => Fault::CannotRead(fields),
+            Err(_) => Fault::Write,
+        },
     }
 }

@@ -66,18 +66,31 @@ fn print_row_faults<W: Write>(
             continue;
         }
         let number = k.saturating_add(1);
-        match row_fault(alloc, line, row)? {
-            Some(fault) => {
-                writeln!(out, "line {number}: {fault}")?;
-                first = first.or(Some(number));
-            }
-            None => good = good.saturating_add(1),
+        if print_row_fault(alloc, out, line, number, row)? {
+            first = first.or(Some(number));
+        } else {
+            good = good.saturating_add(1);
         }
     }
     if first.is_none() {
         writeln!(out, "ok: {good} lines")?;
     }
     Ok(first)
+}
+
+// Prints the fault of the line with this number, if it has one. Returns whether it has.
+fn print_row_fault<W: Write>(
+    alloc: Global,
+    out: &mut W,
+    line: &Line,
+    number: usize,
+    row: &str,
+) -> Result<bool, Fault<'static>> {
+    let Some(fault) = row_fault(alloc, line, row)? else {
+        return Ok(false);
+    };
+    writeln!(out, "line {number}: {fault}")?;
+    Ok(true)
 }
 
 fn print_findings<'a, W: Write>(

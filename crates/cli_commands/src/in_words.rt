@@ -13,7 +13,7 @@ use std::io;
 use std::io::Write;
 use text_replay::Retelling;
 use text_script::status::Fault;
-use text_words::{Field, fields_of, name_of, words_of_fault};
+use text_words::{Field, Told, fields_of, name_of, words_of_fault};
 
 /// Prints a message field by field, or its first fault.
 pub fn show_message<'a, O: Write>(
@@ -33,13 +33,16 @@ fn show_bytes<O: Write>(alloc: Global, bytes: &[u8], out: &mut O) -> Result<(), 
     match fields_of(alloc, bytes) {
         Ok(fields) => Ok(print_fields(out, &fields)?),
         Err(fault) => {
-            print_fields(out, name_of(bytes).as_slice())?;
-            let number = fault.number();
-            let words = words_of_fault(fault);
-            tell(out, format_args!("fault {number}: {words}"))?;
+            show_fault(bytes, fault.number(), words_of_fault(fault), out)?;
             Err(Fault::Message(fault))
         }
     }
+}
+
+// Prints the name of a faulty message, and its fault.
+fn show_fault<O: Write>(bytes: &[u8], number: u8, words: &str, out: &mut O) -> io::Result<()> {
+    print_fields(out, name_of(bytes).as_slice())?;
+    tell(out, format_args!("fault {number}: {words}"))
 }
 
 fn print_fields<O: Write>(out: &mut O, fields: &[Field]) -> io::Result<()> {
@@ -76,12 +79,23 @@ fn print_told<W: Write>(
     for row in text.lines() {
         let words = retelling.told(alloc, line, row)?;
         is_told = is_told || words.is_some();
-        if margin.begin(out, row)? {
-            match &words {
-                Some(words) => writeln!(out, "{words}")?,
-                None => writeln!(out, "{row}")?,
-            }
-        }
+        print_row(words, row, margin, out)?;
     }
     Ok(is_told)
+}
+
+// Prints the words of a line, or the line, with its margin, if it is shown.
+fn print_row<W: Write>(
+    words: Option<Told>,
+    row: &str,
+    margin: &mut Margin,
+    out: &mut W,
+) -> io::Result<()> {
+    if !margin.begin(out, row)? {
+        return Ok(());
+    }
+    match words {
+        Some(words) => writeln!(out, "{words}"),
+        None => writeln!(out, "{row}"),
+    }
 }

@@ -73,10 +73,26 @@ pub fn journals_in<F: Files>(
     for centre in 0..given.line.centre_count() {
         let path = journal_name(alloc, &given.line, folder, centre)?;
         is_written = is_written || files.is_written(path.as_str());
-        let bytes = bytes_of(path, files)?;
-        journals.push(journal_of(alloc, given, centre, &bytes)?.entries)?;
+        journals.push(entries_of(alloc, given, centre, path, files)?)?;
     }
     events_of(alloc, given, in_order(alloc, journals)?, is_written)
+}
+
+// The entries of the journal of a centre at this path.
+fn entries_of<F: Files>(
+    alloc: Global,
+    given: &LineFile,
+    centre: u8,
+    path: String,
+    files: &F,
+) -> Result<Vec<Entry>, Fault<'static>>
+    requires { centre < length given.now.line.centres }
+{
+    let bytes = bytes_of(path, files)?;
+    match journal_of(alloc, given, centre, &bytes) {
+        Ok(journal) => Ok(journal.entries),
+        Err(fault) => Err(fault),
+    }
 }
 
 fn bytes_of<F: Files>(path: String, files: &F) -> Result<Vec<u8>, Fault<'static>> {
@@ -118,22 +134,42 @@ pub fn journal_of(
     ensures rising { IfOk result (λ journal. IsFirstFallen (stamps_of journal.entries.items) None) }
 {
     let length = whole_length(bytes);
-    let whole = bytes.get(..length).unwrap_or(bytes);
-    let read = if length == 0 {
-        first_in(alloc, given, centre, bytes)
-    } else {
-        lines_in(alloc, given, centre, whole)
-    };
-    match read {
+    match entries_in(alloc, given, centre, bytes) {
         Ok(entries) => {
             test_stamps(alloc, &given.line, centre, &entries)?;
             Ok(Journal { entries, length })
         }
-        Err(fault) => {
-            let journal = file_name(alloc, &given.line, centre)?;
-            Err(fault_of(alloc, journal, bytes, fault)?)
-        }
+        Err(fault) => Err(fault_of_journal(alloc, &given.line, centre, bytes, fault)?),
     }
+}
+
+// The entries of the whole lines of a journal.
+fn entries_in(
+    alloc: Global,
+    given: &LineFile,
+    centre: u8,
+    bytes: &[u8],
+) -> Result<Vec<Entry>, JournalFault>
+    requires { centre < length given.now.line.centres }
+{
+    let count = whole_length(bytes);
+    if count == 0 {
+        first_in(alloc, given, centre, bytes)
+    } else {
+        lines_in(alloc, given, centre, bytes.get(..count).unwrap_or(bytes))
+    }
+}
+
+// The fault of the journal of a centre with these bytes, as it is reported.
+fn fault_of_journal(
+    alloc: Global,
+    line: &Line,
+    centre: u8,
+    bytes: &[u8],
+    fault: JournalFault,
+) -> Result<Fault<'static>, AllocError> {
+    let journal = file_name(alloc, line, centre)?;
+    fault_of(alloc, journal, bytes, fault)
 }
 
 // Tests whether each stamp is above the one before it.

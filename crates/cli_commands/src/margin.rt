@@ -79,18 +79,33 @@ impl Margin {
     // Prints the number and the time of the event whose first line this is, or blanks before another line.
     fn print<W: Write>(&self, out: &mut W, number: Option<usize>) -> io::Result<()> {
         if self.is_numbered {
-            match number {
-                Some(number) => write!(out, "{number:>6}  ")?,
-                None => out.write_all(&[b' '; NUMBER_WIDTH])?,
-            }
+            print_number(out, number)?;
         }
         if self.is_timed {
-            match self.time_ms().and_then(timestamp_of) {
-                Some(time) if number.is_some() => write!(out, "{time:.3}  ")?,
-                _ => out.write_all(&[b' '; TIME_WIDTH])?,
-            }
+            print_time(
+                out,
+                if number.is_some() {
+                    self.time_ms()
+                } else {
+                    None
+                },
+            )?;
         }
         Ok(())
+    }
+}
+
+fn print_number<W: Write>(out: &mut W, number: Option<usize>) -> io::Result<()> {
+    match number {
+        Some(number) => write!(out, "{number:>6}  "),
+        None => out.write_all(&[b' '; NUMBER_WIDTH]),
+    }
+}
+
+fn print_time<W: Write>(out: &mut W, time_ms: Option<u64>) -> io::Result<()> {
+    match time_ms.and_then(timestamp_of) {
+        Some(time) => write!(out, "{time:.3}  "),
+        None => out.write_all(&[b' '; TIME_WIDTH]),
     }
 }
 

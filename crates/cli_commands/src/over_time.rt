@@ -38,12 +38,20 @@ pub fn drawn_over_time<'a, F: Files>(
     }
     match print_by_time(alloc, given, name, files)? {
         Some(printed) => draw(alloc, given, &printed, drawing, range),
-        None => {
-            // The journals may not fit together in their own order either.
-            let _ = printed_in(alloc, given, name, files)?;
-            Err(refused(alloc, name, OTHER_ORDER)?)
-        }
+        None => Err(unordered(alloc, given, name, files)?),
     }
+}
+
+// The refusal of journals with times in another order than that of a run.
+fn unordered<'a, F: Files>(
+    alloc: Global,
+    given: &LineFile,
+    name: &'a str,
+    files: &F,
+) -> Result<Fault<'a>, Fault<'a>> {
+    // The journals may not fit together in their own order either.
+    let _ = printed_in(alloc, given, name, files)?;
+    Ok(refused(alloc, name, OTHER_ORDER)?)
 }
 
 fn draw(

@@ -93,17 +93,33 @@ pub(crate) fn print_by_time<'a, F: Files>(
     folder: &'a str,
     files: &F,
 ) -> Result<Option<Printed>, Fault<'a>> {
-    let events = journals_in(alloc, given, folder, files)?;
-    let entries = in_time_order(events.entries)?;
+    let entries = entries_by_time(alloc, given, folder, files)?;
     let times_ms = times_of(alloc, &entries)?;
-    let mut text = Vec::new(alloc);
-    match print_rerun(alloc, &given.line, entries, &mut text) {
-        Ok(()) => match String::from_utf8(text).ok() {
-            Some(text) => Ok(Some(Printed { text, times_ms })),
-            None => Err(Fault::CannotRead(folder)),
-        },
+    match text_of(alloc, &given.line, entries) {
+        Ok(Some(text)) => Ok(Some(Printed { text, times_ms })),
+        Ok(None) => Err(Fault::CannotRead(folder)),
         Err(RerunFault::Unfit(_)) => Ok(None),
         Err(fault) => Err(fault_of(alloc, &given.line, fault)),
+    }
+}
+
+// The entries of the journals in a folder, in the order of their times.
+fn entries_by_time<F: Files>(
+    alloc: Global,
+    given: &LineFile,
+    folder: &str,
+    files: &F,
+) -> Result<Vec<Entry>, Fault<'static>> {
+    let events = journals_in(alloc, given, folder, files)?;
+    Ok(in_time_order(events.entries)?)
+}
+
+// The text of the print of the entries; none if it is not UTF-8.
+fn text_of(alloc: Global, line: &Line, entries: Vec<Entry>) -> Result<Option<String>, RerunFault> {
+    let mut text = Vec::new(alloc);
+    match print_rerun(alloc, line, entries, &mut text) {
+        Ok(()) => Ok(String::from_utf8(text).ok()),
+        Err(fault) => Err(fault),
     }
 }
 
@@ -127,14 +143,17 @@ fn print_listed<'a, F: Files, W: Write>(
 ) -> Result<Found, Fault<'a>> {
     let mut text = Vec::new(alloc);
     let Found { times_ms, part } = print_found(alloc, given, listing.name, files, &mut text)?;
-    let mut margin = Margin::new(&listing, times_ms);
-    match print_shown(from_utf8(&text).unwrap_or(""), &mut margin, out) {
+    match print_with_margin(&text, Margin::new(&listing, times_ms), out) {
         Ok(()) => Ok(Found {
             times_ms: Vec::new(alloc),
             part,
         }),
         Err(_) => Err(Fault::Write),
     }
+}
+
+fn print_with_margin<W: Write>(text: &[u8], mut margin: Margin, out: &mut W) -> io::Result<()> {
+    print_shown(from_utf8(text).unwrap_or(""), &mut margin, out)
 }
 
 fn print_shown<W: Write>(text: &str, margin: &mut Margin, out: &mut W) -> io::Result<()> {

@@ -38,11 +38,18 @@ fn text_in_words<O: Write, E: Write>(
     let mut script = Vec::new(alloc);
     match print_script(alloc, &mut script, line, text) {
         Ok(()) => Ok(write_whole(out, &script)?),
-        Err(ScriptFault::Print(fault)) => Err(fault.into()),
-        Err(ScriptFault::Row(row, fault)) => {
-            writeln!(err, "line {row}: {fault}")?;
-            Err(Fault::Script(row))
-        }
+        Err(fault) => Err(fault_of(fault, err)),
+    }
+}
+
+// The fault of the command. The reason why a line is refused is reported.
+fn fault_of<E: Write>(fault: ScriptFault, err: &mut E) -> Fault<'static> {
+    match fault {
+        ScriptFault::Print(fault) => fault.into(),
+        ScriptFault::Row(row, fault) => match writeln!(err, "line {row}: {fault}") {
+            Ok(()) => Fault::Script(row),
+            Err(_) => Fault::Write,
+        },
     }
 }
 

@@ -60,26 +60,26 @@ fn named<'a>(matches: &ArgMatches<'a>) -> Option<Request<'a>>
     ensures { IfSome result (λ request. subcommand_name_of matches.now ≡ Some (command_of request)) }
 {
     let (command, words) = matches.subcommand()?;
-    Some(match command {
-        "words" => named_words(words)?,
-        "decode" => named_decode(words),
-        "encode" => named_encode(words)?,
-        "serve" => named_serve(words)?,
-        "drive" => named_drive(words)?,
-        "trains" => named_trains(words)?,
-        "tell" => named_tell(words)?,
-        "demo" => named_demo(words),
-        _ => named_of_file(command, words)?,
-    })
+    match command {
+        "words" => named_words(words),
+        "decode" => Some(named_decode(words)),
+        "encode" => named_encode(words),
+        "serve" => named_serve(words),
+        "drive" => named_drive(words),
+        "trains" => named_trains(words),
+        "tell" => named_tell(words),
+        "demo" => Some(named_demo(words)),
+        _ => named_of_file(command, words),
+    }
 }
 
 fn named_words<'a>(words: &ArgMatches<'a>) -> Option<Request<'a>>
     ensures { IfSome result (λ request. command_of request ≡ codes "words") }
 {
-    Some(match words.get_str("message") {
-        Some(digits) => Request::Message { digits },
-        None => named_of_file("words", words)?,
-    })
+    match words.get_str("message") {
+        Some(digits) => Some(Request::Message { digits }),
+        None => named_of_file("words", words),
+    }
 }
 
 fn named_of_file<'a>(command: &str, words: &ArgMatches<'a>) -> Option<Request<'a>>
@@ -92,16 +92,24 @@ fn named_of_file<'a>(command: &str, words: &ArgMatches<'a>) -> Option<Request<'a
             file,
             script: words.get_str("SCRIPT"),
         }),
-        "run" => Some(Request::Run {
-            file,
-            script: words.get_str("SCRIPT")?,
-        }),
+        "run" => named_run(file, words),
         "test" => Some(Request::Test { file }),
-        _ => Some(Request::OnLine {
-            file,
-            task: task_of(command, words)?,
-        }),
+        _ => named_on_line(file, command, words),
     }
+}
+
+fn named_run<'a>(file: &'a str, words: &ArgMatches<'a>) -> Option<Request<'a>>
+    ensures { IfSome result (λ request. command_of request ≡ codes "run") }
+{
+    let script = words.get_str("SCRIPT")?;
+    Some(Request::Run { file, script })
+}
+
+fn named_on_line<'a>(file: &'a str, command: &str, words: &ArgMatches<'a>) -> Option<Request<'a>>
+    ensures { IfSome result (λ request. command_of request ≡ command.now) }
+{
+    let task = task_of(command, words)?;
+    Some(Request::OnLine { file, task })
 }
 
 fn task_of<'a>(command: &str, words: &ArgMatches<'a>) -> Option<Task<'a>>
@@ -109,14 +117,19 @@ fn task_of<'a>(command: &str, words: &ArgMatches<'a>) -> Option<Task<'a>>
 {
     match command {
         "script" => Some(Task::Script(words.get_str("WORDS")?)),
-        "storm" => Some(Task::Storm {
-            script: words.get_str("SCRIPT")?,
-            seed: words.get_one("SEED")?,
-        }),
+        "storm" => storm_of(words),
         "print" => Some(Task::Print(listing_of(words, "FOLDER")?)),
         "words" => Some(Task::Words(listing_of(words, "PRINTED")?)),
         _ => task_on_print(command, words),
     }
+}
+
+fn storm_of<'a>(words: &ArgMatches<'a>) -> Option<Task<'a>>
+    ensures { IfSome result (λ task. task_command task ≡ codes "storm") }
+{
+    let script = words.get_str("SCRIPT")?;
+    let seed = words.get_one("SEED")?;
+    Some(Task::Storm { script, seed })
 }
 
 fn task_on_print<'a>(command: &str, words: &ArgMatches<'a>) -> Option<Task<'a>>
@@ -126,17 +139,30 @@ fn task_on_print<'a>(command: &str, words: &ArgMatches<'a>) -> Option<Task<'a>>
     match command {
         "audit" => Some(Task::Audit(printed)),
         "watch" => Some(Task::Watch(printed)),
-        "picture" => Some(Task::Picture(Drawing {
-            printed,
-            cut: cut_of(words),
-            axis: axis_of(words),
-            is_html: words.get_flag("html"),
-        })),
-        "pcap" => Some(Task::Capture {
-            printed,
-            first_port: words.get_one("port").unwrap_or(21_000),
-        }),
+        "picture" => Some(Task::Picture(drawing_of(printed, words))),
+        "pcap" => Some(capture_of(printed, words)),
         _ => None,
+    }
+}
+
+fn drawing_of<'a>(printed: &'a str, words: &ArgMatches<'a>) -> Drawing<'a>
+    ensures { IsFlag words.now (codes "html") result.is_html }
+{
+    Drawing {
+        printed,
+        cut: cut_of(words),
+        axis: axis_of(words),
+        is_html: words.get_flag("html"),
+    }
+}
+
+fn capture_of<'a>(printed: &'a str, words: &ArgMatches<'a>) -> Task<'a>
+    ensures { task_command result ≡ codes "pcap" }
+{
+    let first_port = words.get_one("port").unwrap_or(21_000);
+    Task::Capture {
+        printed,
+        first_port,
     }
 }
 
@@ -187,15 +213,22 @@ fn named_trains<'a>(words: &ArgMatches<'a>) -> Option<Request<'a>>
     Some(Request::Trains {
         port: words.get_one("PORT")?,
         file: words.get_str("FILE")?,
-        words: TrainsWords {
-            trains: words.get_one("trains"),
-            loss: words.get_one("loss"),
-            late: words.get_one("late"),
-            seed: words.get_one("seed"),
-            seconds: words.get_one("seconds"),
-            is_shut: words.get_flag("no-release"),
-        },
+        words: trains_words(words),
     })
+}
+
+// The options of `trains`.
+fn trains_words(words: &ArgMatches<'_>) -> TrainsWords
+    ensures { IsFlag words.now (codes "no-release") result.is_shut }
+{
+    TrainsWords {
+        trains: words.get_one("trains"),
+        loss: words.get_one("loss"),
+        late: words.get_one("late"),
+        seed: words.get_one("seed"),
+        seconds: words.get_one("seconds"),
+        is_shut: words.get_flag("no-release"),
+    }
 }
 
 fn named_tell<'a>(words: &ArgMatches<'a>) -> Option<Request<'a>>
@@ -237,7 +270,9 @@ fn live_words(words: &ArgMatches<'_>) -> TrainsWords {
 }
 
 // The options of `demo` without `--page`.
-fn settings_of(words: &ArgMatches<'_>) -> Settings {
+fn settings_of(words: &ArgMatches<'_>) -> Settings
+    ensures { IsFlag words.now (codes "script") result.is_script }
+{
     Settings {
         trains: words.get_one("trains").unwrap_or(64),
         loss: words.get_one("loss").unwrap_or(0),

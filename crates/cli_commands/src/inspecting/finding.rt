@@ -179,25 +179,30 @@ impl fmt::Display for Place<'_> {
             Place::Train { number, .. } => ("train", number),
         };
         write!(f, "{what} {number}")?;
-        match self {
-            Place::Centre {
-                name: Some(name),
-                ..
-            }
-            | Place::Track {
-                name: Some(name),
-                ..
-            } => { write!(f, " {name:?}") }
-            Place::Section {
-                track: Some(track),
-                ..
-            } => write!(f, " of track {track:?}"),
-            Place::Train {
-                engine: Some(engine),
-                ..
-            } => write!(f, " (engine {engine})"),
-            _ => Ok(()),
+        write_detail(f, *self)
+    }
+}
+
+/// Prints the name, the track or the engine of a place, if the file has it.
+fn write_detail<W: fmt::Write>(f: &mut Formatter<W>, place: Place<'_>) -> fmt::Result {
+    match place {
+        Place::Centre {
+            name: Some(name),
+            ..
         }
+        | Place::Track {
+            name: Some(name),
+            ..
+        } => { write!(f, " {name:?}") }
+        Place::Section {
+            track: Some(track),
+            ..
+        } => write!(f, " of track {track:?}"),
+        Place::Train {
+            engine: Some(engine),
+            ..
+        } => write!(f, " (engine {engine})"),
+        _ => Ok(()),
     }
 }
 

@@ -57,15 +57,31 @@ impl<'a> Inspection<'a> {
     fn centre(&mut self, number: usize, centre: &'a Value) -> Result<(), AllocError> {
         let name = name_in(centre);
         let place = Place::Centre { number, name };
-        let Some(table) = self.table(place, centre, &["name", "nid_rbc"])? else {
-            return Ok(());
-        };
+        match self.table(place, centre, &["name", "nid_rbc"])? {
+            Some(table) => self.centre_table(place, table),
+            None => Ok(()),
+        }
+    }
+
+    fn centre_table(&mut self, place: Place<'a>, table: &'a Table) -> Result<(), AllocError> {
         if let Some(name) = self.name(place, table)? {
-            if let Some(first) = first_place(&mut self.centre_names, name, place)? {
-                self.note(place, Flaw::NameTwice { name, first })?;
-            }
+            let first = first_place(&mut self.centre_names, name, place)?;
+            self.note_twice(place, name, first)?;
         }
         self.own_number(place, table, "nid_rbc", 16382)
+    }
+
+    /// Notes a name that appeared before, at the first place.
+    fn note_twice(
+        &mut self,
+        place: Place<'a>,
+        name: &'a str,
+        first: Option<Place<'a>>,
+    ) -> Result<(), AllocError> {
+        match first {
+            Some(first) => self.note(place, Flaw::NameTwice { name, first }),
+            None => Ok(()),
+        }
     }
 
     fn tracks(&mut self, alloc: Global, file: &'a Table) -> Result<(), AllocError> {
@@ -100,13 +116,25 @@ impl<'a> Inspection<'a> {
             return Ok(sections);
         };
         let name = self.track_name(place, table)?;
-        let Some(items) = self.array(place, table, "section")? else {
-            return Ok(sections);
-        };
-        if items.is_empty() {
+        match self.track_sections(place, table)? {
+            Some(items) => self.sections(alloc, name, sections, items),
+            None => Ok(sections),
+        }
+    }
+
+    /// The sections of a track. It must have one.
+    fn track_sections(
+        &mut self,
+        place: Place<'a>,
+        table: &'a Table,
+    ) -> Result<Option<&'a Array>, AllocError> {
+        let sections = self.array(place, table, "section")?;
+        if let Some(items) = sections
+            && items.is_empty()
+        {
             self.note(place, Flaw::Empty)?;
         }
-        self.sections(alloc, name, sections, items)
+        Ok(sections)
     }
 
     fn track_name(
@@ -116,9 +144,8 @@ impl<'a> Inspection<'a> {
     ) -> Result<Option<&'a str>, AllocError> {
         let name = self.name(place, table)?;
         if let Some(name) = name {
-            if let Some(first) = first_place(&mut self.track_names, name, place)? {
-                self.note(place, Flaw::NameTwice { name, first })?;
-            }
+            let first = first_place(&mut self.track_names, name, place)?;
+            self.note_twice(place, name, first)?;
         }
         Ok(name)
     }
@@ -136,15 +163,25 @@ impl<'a> Inspection<'a> {
             last: None,
         };
         for section in sections {
-            let place = Place::Section { number, track };
-            if let Some(home) = self.section(place, section)? {
-                if homes.comes_again(home)? {
-                    self.note(place, Flaw::Order { home })?;
-                }
-            }
+            self.section_of_track(Place::Section { number, track }, section, &mut homes)?;
             number = number.saturating_add(1);
         }
         Ok(number)
+    }
+
+    /// Tests a section after those with these homes on its track.
+    fn section_of_track(
+        &mut self,
+        place: Place<'a>,
+        section: &'a Value,
+        homes: &mut Homes<'a>,
+    ) -> Result<(), AllocError> {
+        if let Some(home) = self.section(place, section)?
+            && homes.comes_again(home)?
+        {
+            self.note(place, Flaw::Order { home })?;
+        }
+        Ok(())
     }
 
     /// Tests a section. Returns its home, if it has one.
