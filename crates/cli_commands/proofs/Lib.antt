@@ -1,4 +1,3 @@
 mod Refusals
 pub mod RunningLemmas
 pub mod RerunningLemmas
-pub mod ComparingLemmas

@@ -4,8 +4,6 @@ ghost use Rattle.std.specs.Prelude.{◌≡◌, ◌⊎◌};
 ghost use Rattle.cli_commands.specs.Auditing.{Audits, Reports};
 ghost use Rattle.text_script.specs.declared.status.fault.Fault.TheVariants.{Differs, Write};
 
-use crate::auditing::Audit;
-use crate::comparing::Verdict;
 use crate::files::{Files, Rows};
 use crate::journal::{Events, Part, journals_in};
 use crate::line_file::LineFile;
@@ -15,6 +13,7 @@ use rbc_line::Line;
 use std::alloc::Global;
 use std::io::Write;
 use text_journal::file_name;
+use text_replay::auditing::{Audit, Verdict};
 use text_script::status::Fault;
 
 /// Runs the events of a print again. Reports whether the print is that of its events, or the first line that differs.

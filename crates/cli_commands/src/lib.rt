@@ -4,9 +4,7 @@
 #![tactic(auto)]
 
 mod audit;
-pub mod auditing;
 pub mod command;
-pub mod comparing;
 mod decode;
 pub mod demo;
 mod diagram;

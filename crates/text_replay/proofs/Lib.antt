@@ -1,3 +1,4 @@
+pub mod ComparingLemmas
 pub mod Showing
 pub mod Opened
 pub mod Followed

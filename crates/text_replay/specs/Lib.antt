@@ -1,3 +1,5 @@
+pub mod Auditing
+pub mod Comparing
 pub mod Stretches
 pub mod Noted
 pub mod Turned

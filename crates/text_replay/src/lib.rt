@@ -1,12 +1,14 @@
 //! Replays a print on the line's centres, and shows the line after each of its events on a page. It reads the events,
 //! cuts out a part of them, and finds the events in which a section looks the same. It puts a print into words, with
 //! the contents of its frames. The page of a running line uses its layout, its handovers, and its trains and events in
-//! words.
+//! words. An audit compares a print with that of its events, line by line.
 //!
 //! Bodies are free. docs/FORMATS.md fixes the contents.
 #![tactic(auto)]
 
+pub mod auditing;
 mod changes;
+pub mod comparing;
 mod contents;
 mod cut;
 mod events;

@@ -10,7 +10,6 @@ use crate::running::sheet::{Paper, cells};
 use crate::running::{
     initiations, interlocking, journals, notes, options, order, sinks, slots, trains,
 };
-use cli_commands::auditing::Verdict;
 use rbc_line::Line;
 use std::alloc::Global;
 use std::sync::Wait;
@@ -18,6 +17,7 @@ use std::sync::atomic::AtomicUsize;
 use std::test::*;
 use std::thread::Threads;
 use std::time::Clock;
+use text_replay::auditing::Verdict;
 
 /// The steps of peers at the endpoints of running centres, and the comparisons at the end.
 pub struct Play<'a> {

@@ -5,7 +5,6 @@ use crate::running::line::{CONTROL, bytes_of};
 use crate::running::play::{Stage, now, play_rounds};
 use crate::running::plays::{Before, Papers, Play, Scene, ServeMode, Taken};
 use crate::running::sheet::Sheet;
-use cli_commands::auditing::{Audit, Verdict};
 use rbc_line::Line;
 use rbc_world::WorldEvent;
 use serve_journal::JournalFile;
@@ -17,6 +16,7 @@ use std::thread;
 use std::thread::Threads;
 use std::time::Clock;
 use text_journal::Entry;
+use text_replay::auditing::{Audit, Verdict};
 
 /// The addresses of centres A and B, and of the control endpoint.
 #[derive(Clone, Copy)]

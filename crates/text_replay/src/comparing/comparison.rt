@@ -1,7 +1,7 @@
 ghost use Rattle.std.specs.Prelude.{◌≡◌, ℕ, ◌+◌, ◌<◌, ◌^◌, List, [], ◌∷◌, true, false};
-ghost use Rattle.cli_commands.specs.Comparing.Lines.{lines_of};
-ghost use Rattle.cli_commands.specs.Comparing.Blocks.{Block, blocks_from, differs_in};
-ghost use Rattle.cli_commands.specs.Comparing.Told.{told, wants_ending};
+ghost use Rattle.text_replay.specs.Comparing.Lines.{lines_of};
+ghost use Rattle.text_replay.specs.Comparing.Blocks.{Block, blocks_from, differs_in};
+ghost use Rattle.text_replay.specs.Comparing.Told.{told, wants_ending};
 
 use crate::comparing::part::Part;
 use std::alloc::Global;

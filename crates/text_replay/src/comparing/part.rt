@@ -1,6 +1,6 @@
 ghost use Rattle.std.specs.Prelude.{◌≡◌, ℕ, ◌+◌, ◌&&◌, List, [], ◌∷◌, is_none};
-ghost use Rattle.cli_commands.specs.Comparing.Lines.{is_over, lines_of};
-ghost use Rattle.cli_commands.specs.Comparing.Part.{differs_after, due_after, found, fresh};
+ghost use Rattle.text_replay.specs.Comparing.Lines.{is_over, lines_of};
+ghost use Rattle.text_replay.specs.Comparing.Part.{differs_after, due_after, found, fresh};
 
 use crate::comparing::due::Due;
 

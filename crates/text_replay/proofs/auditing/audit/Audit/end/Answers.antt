@@ -1,8 +1,8 @@
 -- Without a faulty line and a refused step the answer is that of the comparison.
 use Rattle.std.proofs.Common.{◌∙◌, ◌≡◌, None, Ok, Option, refl, Some, sym, ℕ}
-use Rattle.cli_commands.proofs.auditing.audit.Audit.end.Goals as goal
-use Rattle.cli_commands.specs.Auditing.{audited}
-use Rattle.cli_commands.specs.declared.comparing.verdict.Verdict.TheVariants.{Differs, Equal}
+use Rattle.text_replay.proofs.auditing.audit.Audit.end.Goals as goal
+use Rattle.text_replay.specs.Auditing.{audited}
+use Rattle.text_replay.specs.declared.comparing.verdict.Verdict.TheVariants.{Differs, Equal}
 use Rattle.text_script.specs.rbc_centre.declared.fault.StepFault.{StepFault}
 
 none_of : {A : Type 0} (o : Option A) → ((x : A) → o ≡ Some x → ⊥) → o ≡ None

@@ -2,7 +2,7 @@
 use Rattle.std.proofs.Common.{[], ◌+◌, ◌<◌, ◌==◌, ◌∙◌, ◌∷◌, ◌≡◌, ap, arith, Bool, cond, drop, false, length, List, None}
 use Rattle.std.proofs.Common.{Option, refl, rules, Some, subst, sym, take, true, ℕ}
 use Rattle.std.specs.List.{position_from}
-use Rattle.cli_commands.specs.Comparing.Lines.{Ends, lines_of, with_byte}
+use Rattle.text_replay.specs.Comparing.Lines.{Ends, lines_of, with_byte}
 
 -- the lines of a text; the first ends at this count from n
 abbrev pub EndsFrom : ℕ → List ℕ → List (List ℕ) → Option ℕ → Type 0

@@ -1,6 +1,6 @@
 ghost use Rattle.std.specs.Prelude.{[], ◌≡◌, false, IfOk, is_some, List, None, Some, true, ℕ};
-ghost use Rattle.cli_commands.specs.Auditing.{audited, counted};
-ghost use Rattle.cli_commands.specs.Comparing.Told.{told, wants_ending};
+ghost use Rattle.text_replay.specs.Auditing.{audited, counted};
+ghost use Rattle.text_replay.specs.Comparing.Told.{told, wants_ending};
 ghost use Rattle.text_script.specs.rbc_centre.declared.fault.StepFault.{StepFault as Why};
 
 use crate::auditing::played::Played;

@@ -1,5 +1,5 @@
 ghost use Rattle.std.specs.Prelude.{◌≡◌, ◌≤◌, ℕ, List, drop, length};
-ghost use Rattle.cli_commands.specs.Comparing.Lines.{Ends, is_next, is_over, left_after, lines_of};
+ghost use Rattle.text_replay.specs.Comparing.Lines.{Ends, is_next, is_over, left_after, lines_of};
 
 use std::marker::Model;
 

@@ -1,7 +1,7 @@
 -- A print in parts, each compared with its due lines.
 use Rattle.std.specs.Prelude.{ℕ, ◌+◌, List, [], ◌∷◌, ◌++◌, length, Option, None}
 use Rattle.std.specs.Option.{option_or}
-use Rattle.cli_commands.specs.Comparing.Lines.{first_difference}
+use Rattle.text_replay.specs.Comparing.Lines.{first_difference}
 
 -- the due lines of a part, and its actual lines
 pub record Block : Type 0 where

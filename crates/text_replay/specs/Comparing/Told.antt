@@ -1,11 +1,11 @@
 -- The result of a comparison for a print, by the lines that still arrive.
 use Rattle.std.specs.Prelude.{ℕ, ◌+◌, ◌&&◌, Bool, List, [], ◌∷◌, ◌++◌, length, Option, Some, None, is_none}
 use Rattle.std.specs.Option.{option_or}
-use Rattle.cli_commands.specs.declared.comparing.part.Part.{Part}
-use Rattle.cli_commands.specs.declared.comparing.comparison.Comparison.{Comparison}
-use Rattle.cli_commands.specs.Comparing.Lines.{is_over}
-use Rattle.cli_commands.specs.Comparing.Part.{found, found_after}
-use Rattle.cli_commands.specs.Comparing.Blocks.{Block, differs_in}
+use Rattle.text_replay.specs.declared.comparing.part.Part.{Part}
+use Rattle.text_replay.specs.declared.comparing.comparison.Comparison.{Comparison}
+use Rattle.text_replay.specs.Comparing.Lines.{is_over}
+use Rattle.text_replay.specs.Comparing.Part.{found, found_after}
+use Rattle.text_replay.specs.Comparing.Blocks.{Block, differs_in}
 
 -- in the last part: the lines that end the print are known, or these lines end it
 abbrev pub found_at_end : Option Part → Part → ℕ → List (List ℕ) → List (List ℕ) → Option ℕ

@@ -2,8 +2,8 @@ use Rattle.std.proofs.Common.{◌==◌, ◌∙◌, rules, tests}
 use Rattle.std.proofs.lemmas.Iterator.{YieldsList-from_slice}
 use Rattle.std.proofs.lemmas.Iterator.Adapters.{position_from-zero}
 use Rattle.std.proofs.lemmas.Iterator.Search.{position_from_yields_List}
-use Rattle.cli_commands.proofs.comparing.due.line_end.Goals as goal
-use Rattle.cli_commands.proofs.ComparingLemmas.Ends.{ends_where}
+use Rattle.text_replay.proofs.comparing.due.line_end.Goals as goal
+use Rattle.text_replay.proofs.ComparingLemmas.Ends.{ends_where}
 
 pub returns : goal.returns
 returns c =

@@ -1,8 +1,8 @@
 -- A part of a print, compared with its due lines.
 use Rattle.std.specs.Prelude.{ℕ, if◌then◌else◌, List, [], ◌∷◌, Option, Some, None}
 use Rattle.std.specs.Str.{bytes_eq}
-use Rattle.cli_commands.specs.declared.comparing.part.Part.{Part}
-use Rattle.cli_commands.specs.Comparing.Lines.{first_difference, left_after}
+use Rattle.text_replay.specs.declared.comparing.part.Part.{Part}
+use Rattle.text_replay.specs.Comparing.Lines.{first_difference, left_after}
 
 -- The first difference, if none was found before: the remaining lines begin with number n, and are these.
 abbrev pub found_after : Option ℕ → List (List ℕ) → ℕ → List (List ℕ) → Option ℕ
