@@ -6,6 +6,7 @@ use Rattle.cli_commands.specs.declared.inspecting.finding.Flaw.TheVariants as fl
 use Rattle.rbc_line.specs.declared.fault.LineFault.{LineFault}
 use Rattle.rbc_line.specs.declared.fault.LineFault.TheVariants.{Centres, Home, Length, Number, Order, Sections, Shape}
 use Rattle.rbc_line.specs.declared.fault.LineFault.TheVariants.{Tracks, Trains, Twice}
+use Rattle.std.specs.Prelude.{codes, List, ℕ}
 
 -- the fault of too few or too many items of this kind
 abbrev pub count_fault : Counted → LineFault
@@ -13,6 +14,20 @@ count_fault counted.Centres = Centres
 count_fault counted.Tracks = Tracks
 count_fault counted.Sections = Sections
 count_fault counted.Trains = Trains
+
+-- the fewest and the most items of this kind in a line
+abbrev pub limits : Counted → ℕ × ℕ
+limits counted.Centres = (2, 8)
+limits counted.Tracks = (1, 4)
+limits counted.Sections = (1, 512)
+limits counted.Trains = (1, 64)
+
+-- the name of items of this kind
+abbrev pub name_of : Counted → List ℕ
+name_of counted.Centres = codes "centres"
+name_of counted.Tracks = codes "tracks"
+name_of counted.Sections = codes "sections"
+name_of counted.Trains = codes "trains"
 
 -- the fault of a flaw
 abbrev pub flaw_fault : Flaw → LineFault

@@ -114,15 +114,28 @@ pub struct Finding<'a> {
 
 impl Counted {
     ghost use Rattle.std.specs.Prelude.{◌≡◌};
-    ghost use Rattle.cli_commands.specs.Inspecting.Findings.{count_fault};
+    ghost use Rattle.cli_commands.specs.Inspecting.Findings.{count_fault, limits, name_of};
 
     /// The fewest and the most items of this kind in a line.
-    pub(crate) fn limits(self) -> (usize, usize) {
+    pub(crate) fn limits(self) -> (usize, usize)
+        ensures { result ≡ limits self }
+    {
         match self {
             Counted::Centres => (2, 8),
             Counted::Tracks => (1, 4),
             Counted::Sections => (1, 512),
             Counted::Trains => (1, 64),
+        }
+    }
+
+    fn name(self) -> &'static str
+        ensures { result.now ≡ name_of self }
+    {
+        match self {
+            Counted::Centres => "centres",
+            Counted::Tracks => "tracks",
+            Counted::Sections => "sections",
+            Counted::Trains => "trains",
         }
     }
 
@@ -206,17 +219,6 @@ fn write_detail<W: fmt::Write>(f: &mut Formatter<W>, place: Place<'_>) -> fmt::R
     }
 }
 
-impl fmt::Display for Counted {
-    fn fmt<W: fmt::Write>(&self, f: &mut Formatter<W>) -> fmt::Result {
-        f.write_str(match self {
-            Counted::Centres => "centres",
-            Counted::Tracks => "tracks",
-            Counted::Sections => "sections",
-            Counted::Trains => "trains",
-        })
-    }
-}
-
 impl fmt::Display for Flaw<'_> {
     fn fmt<W: fmt::Write>(&self, f: &mut Formatter<W>) -> fmt::Result {
         match self {
@@ -237,7 +239,8 @@ fn write_value<W: fmt::Write>(f: &mut Formatter<W>, flaw: Flaw<'_>) -> fmt::Resu
     match flaw {
         Flaw::Count { counted, count } => {
             let (low, high) = counted.limits();
-            write!(f, "has {count} {counted}, not {low} to {high}")
+            let name = counted.name();
+            write!(f, "has {count} {name}, not {low} to {high}")
         }
         Flaw::Length { metres } => write!(f, "length {metres} is not 100 to 2000"),
         Flaw::Number {

@@ -1,5 +1,12 @@
 //! The findings in a line file so far, and the tests of one table.
 
+ghost use Rattle.std.specs.Prelude.{[], ◌≡◌, ◌∷◌, if◌then◌else◌, IfOk, IfSome, None, OnOk};
+ghost use Rattle.cli_commands.specs.Inspecting.Findings.{limits};
+ghost use Rattle.cli_commands.specs.Inspecting.Notes.{Adds, AddsOne};
+ghost use Rattle.cli_commands.specs.declared.inspecting.finding.Flaw.TheVariants as flaw;
+ghost use Rattle.cli_commands.specs.declared.inspecting.finding.Place.TheVariants as at;
+ghost use Rattle.rbc_line.specs.Faults.{has_count_fault, is_name, is_outside};
+
 use crate::inspecting::finding::{Counted, Finding, Flaw, Place};
 use rbc_line::limits::{has_count_fault, is_name, is_outside};
 use std::alloc::{AllocError, Global};
@@ -31,7 +38,9 @@ impl<'a> Inspection<'a> {
         }
     }
 
-    pub(crate) fn note(&mut self, place: Place<'a>, flaw: Flaw<'a>) -> Result<(), AllocError> {
+    pub(crate) fn note(&mut self, place: Place<'a>, flaw: Flaw<'a>) -> Result<(), AllocError>
+        ensures { OnOk result (Adds self.old self.new (record { place = place.entry; flaw = flaw.entry } ∷ [])) }
+    {
         self.findings.push(Finding { place, flaw })?;
         Ok(())
     }
@@ -75,7 +84,10 @@ impl<'a> Inspection<'a> {
         table: &'a Table,
         key: &'static str,
         wanted: &'static str,
-    ) -> Result<Option<&'a Value>, AllocError> {
+    ) -> Result<Option<&'a Value>, AllocError>
+        ensures found { IfOk result (λ value. IfSome value (λ _. Adds self.old self.new [])) }
+        ensures missing { IfOk result (λ value. value ≡ None → AddsOne self.old self.new place.entry) }
+    {
         let flaw = match table.get(key) {
             Some(value) if value.type_str() == wanted => return Ok(Some(value)),
             Some(value) => {
@@ -93,7 +105,9 @@ impl<'a> Inspection<'a> {
         place: Place<'a>,
         table: &'a Table,
         key: &'static str,
-    ) -> Result<Option<i64>, AllocError> {
+    ) -> Result<Option<i64>, AllocError>
+        ensures { IfOk result (λ number. IfSome number (λ _. Adds self.old self.new [])) }
+    {
         match self.value(place, table, key, "integer")? {
             Some(value) => Ok(value.as_integer()),
             None => Ok(None),
@@ -105,7 +119,9 @@ impl<'a> Inspection<'a> {
         place: Place<'a>,
         table: &'a Table,
         key: &'static str,
-    ) -> Result<Option<&'a str>, AllocError> {
+    ) -> Result<Option<&'a str>, AllocError>
+        ensures { IfOk result (λ text. IfSome text (λ _. Adds self.old self.new [])) }
+    {
         match self.value(place, table, key, "string")? {
             Some(value) => Ok(value.as_str()),
             None => Ok(None),
@@ -117,7 +133,9 @@ impl<'a> Inspection<'a> {
         place: Place<'a>,
         table: &'a Table,
         key: &'static str,
-    ) -> Result<Option<&'a Array>, AllocError> {
+    ) -> Result<Option<&'a Array>, AllocError>
+        ensures { IfOk result (λ array. IfSome array (λ _. Adds self.old self.new [])) }
+    {
         match self.value(place, table, key, "array")? {
             Some(value) => Ok(value.as_array()),
             None => Ok(None),
@@ -131,7 +149,11 @@ impl<'a> Inspection<'a> {
         table: &'a Table,
         key: &'static str,
         highest: u32,
-    ) -> Result<Option<i64>, AllocError> {
+    ) -> Result<Option<i64>, AllocError>
+        ensures { IfOk result (λ number. IfSome number (λ value. Adds self.old self.new
+            (if is_outside 0 highest value
+            then record { place = place.entry; flaw = flaw.Number key.entry value highest } ∷ [] else []))) }
+    {
         let number = self.integer(place, table, key)?;
         if let Some(value) = number {
             if is_outside(0, highest, value) {
@@ -169,7 +191,10 @@ impl<'a> Inspection<'a> {
         &mut self,
         place: Place<'a>,
         table: &'a Table,
-    ) -> Result<Option<&'a str>, AllocError> {
+    ) -> Result<Option<&'a str>, AllocError>
+        ensures { IfOk result (λ text. IfSome text (λ name. Adds self.old self.new
+            (if is_name name.now then [] else record { place = place.entry; flaw = flaw.Name name } ∷ []))) }
+    {
         let text = self.text(place, table, "name")?;
         if let Some(name) = text {
             if !is_name(name) {
@@ -189,7 +214,11 @@ impl<'a> Inspection<'a> {
         Ok(())
     }
 
-    pub(crate) fn count(&mut self, counted: Counted, count: usize) -> Result<(), AllocError> {
+    pub(crate) fn count(&mut self, counted: Counted, count: usize) -> Result<(), AllocError>
+        ensures { OnOk result (Adds self.old self.new
+            (if has_count_fault (limits counted).0 (limits counted).1 count
+            then record { place = at.File; flaw = flaw.Count counted count } ∷ [] else [])) }
+    {
         let (low, high) = counted.limits();
         if has_count_fault(low, high, count) {
             self.note(Place::File, Flaw::Count { counted, count })?;
