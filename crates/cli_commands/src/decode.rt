@@ -1,6 +1,8 @@
 //! Shows bytes as messages or as a frame, field by field.
 
-ghost use Rattle.std.specs.Prelude.{◌≡◌, false, IsErrOf, Ok, OnOk, true};
+ghost use Rattle.std.specs.Prelude.{◌≡◌, ◌⊎◌, false, if◌then◌else◌, IfErr, IsErrOf, Ok, OnOk, true};
+ghost use Rattle.text_fields.specs.declared.print.Form.TheVariants.{Json, Text};
+ghost use Rattle.text_script.specs.Status.Statuses.{status_of};
 ghost use Rattle.text_script.specs.declared.status.fault.Fault.TheVariants.{Differs};
 
 use crate::files::Files;
@@ -26,13 +28,12 @@ pub fn decode<'a, S: AsStr, F: Files, O: Write>(
     decoding: Decoding,
     files: &F,
     out: &mut O,
-) -> Result<(), Fault<'a>> {
+) -> Result<(), Fault<'a>>
+    ensures { IfErr result (λ why. (status_of why ≡ 1) ⊎ (status_of why ≡ 2) ⊎ (status_of why ≡ 3)
+        ⊎ (status_of why ≡ 5) ⊎ (status_of why ≡ 6)) }
+{
     let bytes = given_bytes(alloc, words, files)?;
-    let form = if decoding.is_json {
-        Form::Json
-    } else {
-        Form::Text
-    };
+    let form = form_of(decoding);
     let done = if decoding.is_frame {
         print_frame(alloc, &bytes, form, out)
     } else {
@@ -41,10 +42,22 @@ pub fn decode<'a, S: AsStr, F: Files, O: Write>(
     result_of(done)
 }
 
+// The form of the print: `--json` asks for JSON.
+fn form_of(decoding: Decoding) -> Form
+    ensures { result ≡ (if decoding.is_json then Json else Text) }
+{
+    if decoding.is_json {
+        Form::Json
+    } else {
+        Form::Text
+    }
+}
+
 // The result of the command, by that of the print: whether a decoder took all bytes.
 fn result_of(done: Result<bool, PrintFault>) -> Result<(), Fault<'static>>
     ensures ok { OnOk result (done ≡ Ok true) }
     ensures differs { done ≡ Ok false → IsErrOf result Differs }
+    ensures status { IfErr result (λ why. (status_of why ≡ 1) ⊎ (status_of why ≡ 5) ⊎ (status_of why ≡ 6)) }
 {
     match done {
         Ok(true) => Ok(()),
@@ -59,7 +72,9 @@ fn given_bytes<'a, S: AsStr, F: Files>(
     alloc: Global,
     words: &'a [S],
     files: &F,
-) -> Result<Vec<u8>, Fault<'a>> {
+) -> Result<Vec<u8>, Fault<'a>>
+    ensures { IfErr result (λ why. (status_of why ≡ 2) ⊎ (status_of why ≡ 3) ⊎ (status_of why ≡ 5)) }
+{
     match bytes_of_words(alloc, words)? {
         Some(bytes) => Ok(bytes),
         None => bytes_of_only_word(alloc, words, files),
@@ -71,7 +86,9 @@ fn bytes_of_only_word<'a, S: AsStr, F: Files>(
     alloc: Global,
     words: &'a [S],
     files: &F,
-) -> Result<Vec<u8>, Fault<'a>> {
+) -> Result<Vec<u8>, Fault<'a>>
+    ensures { IfErr result (λ why. (status_of why ≡ 2) ⊎ (status_of why ≡ 3) ⊎ (status_of why ≡ 5)) }
+{
     let word = faulty_word(words);
     if count_of(words) == 1 {
         bytes_of_file(alloc, word, files)
@@ -139,8 +156,12 @@ fn bytes_of_file<'a, F: Files>(
     alloc: Global,
     file: &'a str,
     files: &F,
-) -> Result<Vec<u8>, Fault<'a>> {
-    let text = files.text(file).ok_or(Fault::CannotRead(file))?;
+) -> Result<Vec<u8>, Fault<'a>>
+    ensures { IfErr result (λ why. (status_of why ≡ 3) ⊎ (status_of why ≡ 5)) }
+{
+    let Some(text) = files.text(file) else {
+        return Err(Fault::CannotRead(file));
+    };
     match bytes_in(alloc, text.as_str())? {
         Some(bytes) => Ok(bytes),
         None => Err(Fault::CannotRead(file)),

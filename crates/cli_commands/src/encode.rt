@@ -1,5 +1,8 @@
 //! Prints the bytes of messages or frames whose fields are given.
 
+ghost use Rattle.std.specs.Prelude.{◌≡◌, ◌⊎◌, IfErr};
+ghost use Rattle.text_script.specs.Status.Statuses.{status_of};
+
 use crate::files::Files;
 use std::alloc::{AllocError, Global};
 use std::io::Write;
@@ -15,7 +18,9 @@ pub fn encode<'a, F: Files, O: Write, E: Write>(
     files: &F,
     out: &mut O,
     err: &mut E,
-) -> Result<(), Fault<'a>> {
+) -> Result<(), Fault<'a>>
+    ensures { IfErr result (λ why. (status_of why ≡ 3) ⊎ (status_of why ≡ 5) ⊎ (status_of why ≡ 6)) }
+{
     let Some(text) = files.text(fields) else {
         return Err(Fault::CannotRead(fields));
     };

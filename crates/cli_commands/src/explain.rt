@@ -1,4 +1,5 @@
-ghost use Rattle.cli_commands.specs.Explaining.Results.{Explains};
+ghost use Rattle.std.specs.Prelude.{◌≡◌};
+ghost use Rattle.cli_commands.specs.Explaining.Results.{Explains, script_result};
 
 use crate::explaining::LineText;
 use crate::files::Files;
@@ -46,7 +47,14 @@ fn explain_good<'a, F: Files, W: Write>(
     let Some(text) = files.text(script) else {
         return Err(Fault::CannotRead(script));
     };
-    match print_row_faults(alloc, out, line, text.as_str())? {
+    result_of(print_row_faults(alloc, out, line, text.as_str())?)
+}
+
+// The result of the command, by the first faulty line of the script.
+fn result_of(first: Option<usize>) -> Result<(), Fault<'static>>
+    ensures { result ≡ script_result first }
+{
+    match first {
         Some(row) => Err(Fault::Script(row)),
         None => Ok(()),
     }

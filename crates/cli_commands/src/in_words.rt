@@ -1,5 +1,8 @@
 //! Puts messages, and prints of `run`, into words.
 
+ghost use Rattle.std.specs.Prelude.{◌≡◌, ◌⊎◌, IfErr};
+ghost use Rattle.text_script.specs.Status.Statuses.{status_of};
+
 use crate::files::Files;
 use crate::line_file::LineFile;
 use crate::margin::Margin;
@@ -20,7 +23,10 @@ pub fn show_message<'a, O: Write>(
     alloc: Global,
     digits: &'a str,
     out: &mut O,
-) -> Result<(), Fault<'a>> {
+) -> Result<(), Fault<'a>>
+    ensures { IfErr result (λ why. (status_of why ≡ 2) ⊎ (status_of why ≡ 5) ⊎ (status_of why ≡ 6)
+        ⊎ (status_of why ≡ 7)) }
+{
     let bytes = match hex::decode(alloc, digits) {
         Ok(bytes) => bytes,
         Err(FromHexError::OutOfMemory) => return Err(AllocError.into()),
@@ -29,7 +35,9 @@ pub fn show_message<'a, O: Write>(
     show_bytes(alloc, &bytes, out)
 }
 
-fn show_bytes<O: Write>(alloc: Global, bytes: &[u8], out: &mut O) -> Result<(), Fault<'static>> {
+fn show_bytes<O: Write>(alloc: Global, bytes: &[u8], out: &mut O) -> Result<(), Fault<'static>>
+    ensures { IfErr result (λ why. (status_of why ≡ 6) ⊎ (status_of why ≡ 7)) }
+{
     match fields_of(alloc, bytes) {
         Ok(fields) => Ok(print_fields(out, &fields)?),
         Err(fault) => {

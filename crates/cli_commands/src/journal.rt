@@ -1,8 +1,12 @@
 //! Reads the journals of a line's centres from one folder.
 
-ghost use Rattle.std.specs.Prelude.{◌<◌, IfOk, length, None, OnOk};
+ghost use Rattle.std.specs.Prelude.{◌++◌, ◌<◌, ◌≡◌, codes, IfErr, IfOk, is_some, length, None, OnOk};
+ghost use Rattle.std.specs.Prelude.{option_map, string_bytes};
+ghost use Rattle.cli_commands.specs.Journals.{IsFaultOf, IsUnfit, is_of_known_version};
 ghost use Rattle.text_journal.specs.Order.{IsFirstFallen, stamps_of};
 ghost use Rattle.text_journal.specs.Whole.{AreWhole};
+ghost use Rattle.text_script.specs.declared.status.fault.Fault.TheVariants.{NoJournal};
+ghost use Rattle.text_script.specs.Print.Rows.{name_at};
 
 use crate::files::Files;
 use crate::line_file::LineFile;
@@ -52,7 +56,10 @@ impl fmt::Display for Part {
 
 impl Events {
     /// The part that was read, if a program writes the journals.
-    pub(crate) fn part(&self) -> Option<Part> {
+    pub(crate) fn part(&self) -> Option<Part>
+        ensures { result ≡ option_map (λ count. record { events = length self.now.entries.items; left_out = count })
+            self.now.left_out }
+    {
         Some(Part {
             events: self.entries.len(),
             left_out: self.left_out?,
@@ -95,7 +102,9 @@ fn entries_of<F: Files>(
     }
 }
 
-fn bytes_of<F: Files>(path: String, files: &F) -> Result<Vec<u8>, Fault<'static>> {
+fn bytes_of<F: Files>(path: String, files: &F) -> Result<Vec<u8>, Fault<'static>>
+    ensures { IfErr result (λ fault. fault ≡ NoJournal path) }
+{
     match files.contents(path.as_str()) {
         Some(bytes) => Ok(bytes),
         None => Err(Fault::NoJournal(path)),
@@ -107,7 +116,9 @@ fn events_of(
     given: &LineFile,
     entries: Vec<Entry>,
     is_written: bool,
-) -> Result<Events, Fault<'static>> {
+) -> Result<Events, Fault<'static>>
+    ensures { IfOk result (λ events. is_some events.left_out ≡ is_written) }
+{
     if !is_written {
         return Ok(Events {
             entries,
@@ -194,7 +205,10 @@ pub fn journal_name(
     line: &Line,
     folder: &str,
     centre: u8,
-) -> Result<String, AllocError> {
+) -> Result<String, AllocError>
+    ensures { IfOk result (λ path. string_bytes path
+        ≡ folder.now ++ (codes "/" ++ (name_at line.now centre ++ codes ".journal"))) }
+{
     let file = file_name(alloc, line, centre)?;
     format!(in alloc; "{folder}/{file}")
 }
@@ -217,7 +231,9 @@ pub(crate) fn unfit_at(
 }
 
 // The fault of journals whose first unfit line is this line of this centre's journal.
-fn unfit(alloc: Global, line: &Line, centre: u8, row: usize) -> Result<Fault<'static>, AllocError> {
+fn unfit(alloc: Global, line: &Line, centre: u8, row: usize) -> Result<Fault<'static>, AllocError>
+    ensures { IfOk result (IsUnfit (name_at line.now centre ++ codes ".journal") row) }
+{
     let journal = file_name(alloc, line, centre)?;
     Ok(Fault::Unfit { journal, row })
 }
@@ -270,7 +286,9 @@ fn text_before(bytes: &[u8], at: usize) -> &str {
 }
 
 // Whether a file begins as a journal of version 1 or 2.
-fn is_of_known_version(bytes: &[u8]) -> bool {
+fn is_of_known_version(bytes: &[u8]) -> bool
+    ensures { result ≡ is_of_known_version bytes.now }
+{
     bytes.starts_with(b"journal 1 ") || bytes.starts_with(b"journal 2 ")
 }
 
@@ -280,7 +298,9 @@ fn fault_of(
     journal: String,
     bytes: &[u8],
     fault: JournalFault,
-) -> Result<Fault<'static>, AllocError> {
+) -> Result<Fault<'static>, AllocError>
+    ensures { IfOk result (IsFaultOf journal bytes.now fault) }
+{
     match fault {
         JournalFault::Memory => Err(AllocError),
         JournalFault::Damaged(row) => Ok(Fault::Damaged { journal, row }),

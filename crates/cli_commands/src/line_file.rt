@@ -1,3 +1,6 @@
+ghost use Rattle.std.specs.Prelude.{IfErr, IfOk};
+ghost use Rattle.cli_commands.specs.Runs.{GivesLine, GivesNoLine};
+
 use crate::files::Files;
 use rbc_line::Line;
 use std::alloc::Global;
@@ -15,10 +18,15 @@ pub fn line_file_in<'a, F: Files>(
     alloc: Global,
     file: &'a str,
     files: &F,
-) -> Result<LineFile, Fault<'a>> {
+) -> Result<LineFile, Fault<'a>>
+    ensures line { IfOk result (λ given. GivesLine (F.may_give files.now) file.now given.line) }
+    ensures fault { IfErr result (GivesNoLine (F.may_give files.now) file.now) }
+{
     let Some(text) = files.text(file) else {
         return Err(Fault::CannotRead(file));
     };
-    let line = Line::from_toml(alloc, text.as_str())?;
-    Ok(LineFile { text, line })
+    match Line::from_toml(alloc, text.as_str()) {
+        Ok(line) => Ok(LineFile { text, line }),
+        Err(fault) => Err(Fault::Line(fault)),
+    }
 }

@@ -1,6 +1,7 @@
 //! The chosen events of a print, and the margin of their lines: numbers and times.
 
-ghost use Rattle.std.specs.Prelude.{◌≡◌, ◌==◌, ◌+◌, ◌-◌, ◌^◌, if◌then◌else◌, IfSome, None, min, option_and_then, slice_get};
+ghost use Rattle.std.specs.Prelude.{◌≡◌, ◌↔◌, ◌+◌, ◌-◌, ◌^◌, IfOk, IfSome, IsTrue, None, min};
+ghost use Rattle.cli_commands.specs.Times.{IsWithin, time_at};
 
 use crate::requests::{Listing, TimeRange};
 use jiff::Timestamp;
@@ -44,15 +45,29 @@ impl Margin {
     }
 
     /// Reads the next line. Prints its margin if the line is shown, and returns whether it is.
-    pub fn begin<W: Write>(&mut self, out: &mut W, row: &str) -> io::Result<bool> {
-        let number = self.number_of(row);
-        if number.is_some() {
-            self.is_shown = self.range.contains(self.time_ms());
-        }
+    pub fn begin<W: Write>(&mut self, out: &mut W, row: &str) -> io::Result<bool>
+        ensures { IfOk result (λ is_shown. is_shown ≡ self.new.is_shown) }
+    {
+        let number = self.take(row);
         if self.is_shown {
             self.print(out, number)?;
         }
         Ok(self.is_shown)
+    }
+
+    // Takes the next line. Returns the number of the event that it begins. The event is shown if its time is within
+    // the range, and so are the lines after it.
+    fn take(&mut self, row: &str) -> Option<usize>
+        ensures next { IfSome result (λ number. (number ≡ self.new.events)
+            × (self.new.events ≡ min (self.old.events + 1) (2 ^ 64 - 1))) }
+        ensures shown { IfSome result (λ number. IsTrue self.new.is_shown
+            ↔ IsWithin self.new.range (time_at self.new.times_ms.items self.new.events)) }
+        ensures range { self.new.range ≡ self.old.range }
+        ensures kept { result ≡ None → self.new ≡ self.old }
+    {
+        let number = self.number_of(row)?;
+        self.is_shown = self.range.contains(self.time_ms());
+        Some(number)
     }
 
     // Counts the event whose first line this is, and returns its number, from 1.
@@ -60,6 +75,7 @@ impl Margin {
         ensures number { IfSome result (λ number. number ≡ self.new.events) }
         ensures next { IfSome result (λ number. number ≡ min (self.old.events + 1) (2 ^ 64 - 1)) }
         ensures kept { result ≡ None → self.new ≡ self.old }
+        ensures others { (self.new.range ≡ self.old.range) × (self.new.times_ms ≡ self.old.times_ms) }
     {
         if !row.starts_with("> ") || row == "> show" {
             return None;
@@ -70,8 +86,7 @@ impl Margin {
 
     // The time of the last event.
     fn time_ms(&self) -> Option<u64>
-        ensures { result ≡ option_and_then (λ time. time)
-            (if self.now.events == 0 then None else slice_get self.now.times_ms.items (self.now.events - 1)) }
+        ensures { result ≡ time_at self.now.times_ms.items self.now.events }
     {
         *self.times_ms.get(self.events.checked_sub(1)?)?
     }

@@ -1,6 +1,7 @@
 //! Writes that end with a flush.
 
-ghost use Rattle.std.specs.Prelude.{◌≡◌, ◌⊎◌, IsErrOf};
+ghost use Rattle.std.specs.Io.KnownBytes.{Appends};
+ghost use Rattle.std.specs.Prelude.{◌≡◌, ◌⊎◌, IsErrOf, OnOk};
 ghost use Rattle.text_script.specs.declared.status.fault.Fault.TheVariants.{Write as Refused};
 
 use std::fmt::Display;
@@ -15,7 +16,9 @@ pub fn tell<W: Write, T: Display + Drop>(out: &mut W, text: T) -> io::Result<()>
 }
 
 /// Writes all of these bytes.
-pub fn write_whole<W: Write>(out: &mut W, bytes: &[u8]) -> io::Result<()> {
+pub fn write_whole<W: Write>(out: &mut W, bytes: &[u8]) -> io::Result<()>
+    ensures { OnOk result (Appends (W.contents out.old) (W.contents out.new) bytes.now) }
+{
     out.write_all(bytes)?;
     out.flush()
 }

@@ -1,6 +1,12 @@
 //! Prints a line for a reader: its centres, its tracks with their sections and borders, and its trains.
 
-use rbc_line::{Line, Section};
+ghost use Rattle.std.specs.Io.KnownBytes.{Appends};
+ghost use Rattle.std.specs.Prelude.{◌+◌, ◌-◌, ◌==◌, ◌^◌, ◌≡◌, if◌then◌else◌, min, None, OnOk, option_and_then};
+ghost use Rattle.std.specs.Prelude.{Some};
+ghost use Rattle.cli_commands.specs.Pictures.{border_text, train_text};
+ghost use Rattle.rbc_line.specs.Views.{placed_section};
+
+use rbc_line::{Line, Section, Train};
 use std::io;
 use std::io::Write;
 use text_script::print::name_of;
@@ -88,15 +94,20 @@ fn print_border<W: Write>(
     before: Option<u8>,
     section: &Section,
 ) -> io::Result<()> {
-    let Some(before) = before else {
-        return Ok(());
-    };
-    if before != section.home {
-        let from = name_of(line, before);
-        let to = name_of(line, section.home);
-        writeln!(out, "  border from {from} to {to} at {} m", section.start)?;
+    match before {
+        Some(before) if before != section.home => print_change(out, line, before, section),
+        _ => Ok(()),
     }
-    Ok(())
+}
+
+/// Prints the border between the home before a section and the section's own.
+fn print_change<W: Write>(out: &mut W, line: &Line, before: u8, section: &Section) -> io::Result<()>
+    ensures { OnOk result (Appends (W.contents out.old) (W.contents out.new)
+        (border_text line.now before section.now)) }
+{
+    let from = name_of(line, before);
+    let to = name_of(line, section.home);
+    writeln!(out, "  border from {from} to {to} at {} m", section.start)
 }
 
 fn print_section<W: Write>(
@@ -117,21 +128,33 @@ fn print_section<W: Write>(
 }
 
 fn print_train<W: Write>(out: &mut W, line: &Line, number: u8) -> io::Result<()> {
-    if let Some(train) = line.train(number) {
-        let registrar = name_of(line, train.registrar);
-        writeln!(out, "train {}, registrar {registrar}", train.nid_engine)?;
+    match line.train(number) {
+        Some(train) => print_listed(out, line, &train),
+        None => Ok(()),
     }
-    Ok(())
+}
+
+fn print_listed<W: Write>(out: &mut W, line: &Line, train: &Train) -> io::Result<()>
+    ensures { OnOk result (Appends (W.contents out.old) (W.contents out.new) (train_text line.now train.now)) }
+{
+    let registrar = name_of(line, train.registrar);
+    writeln!(out, "train {}, registrar {registrar}", train.nid_engine)
 }
 
 /// The section of this number, if it is on the track.
-fn section_on(line: &Line, track: u8, number: u16) -> Option<Section> {
+fn section_on(line: &Line, track: u8, number: u16) -> Option<Section>
+    ensures { result ≡ option_and_then (λ s. if s.track == track then Some s else None)
+        (placed_section line.now number) }
+{
     match line.section(number) {
         Some(section) if section.track == track => Some(section),
         _ => None,
     }
 }
 
-fn end_of(section: &Section) -> u32 {
+// The end of a section, in metres from the start of its track.
+fn end_of(section: &Section) -> u32
+    ensures { result ≡ min (section.now.start + section.now.metres) (2 ^ 32 - 1) }
+{
     section.start.saturating_add(u32::from(section.metres))
 }

@@ -1,7 +1,7 @@
 //! The requests of the arguments.
 
-ghost use Rattle.std.specs.Prelude.{◌↔◌, IsTrue};
-ghost use Rattle.cli_commands.specs.Times.{IsWithin};
+ghost use Rattle.std.specs.Prelude.{◌≡◌, ◌↔◌, ◌||◌, IsTrue, not};
+ghost use Rattle.cli_commands.specs.Times.{IsWithin, is_bounded};
 
 use crate::decode::Decoding;
 use crate::diagram::Drawing;
@@ -126,12 +126,16 @@ pub struct Listing<'a> {
 
 impl Listing<'_> {
     /// Whether all events are shown, as they are.
-    pub(crate) fn is_plain(&self) -> bool {
+    pub(crate) fn is_plain(&self) -> bool
+        ensures { result ≡ not (self.now.is_numbered || (self.now.is_timed || is_bounded self.now.range)) }
+    {
         !self.is_numbered && !self.needs_times()
     }
 
     /// Whether the times of events are needed.
-    pub(crate) fn needs_times(&self) -> bool {
+    pub(crate) fn needs_times(&self) -> bool
+        ensures { result ≡ (self.now.is_timed || is_bounded self.now.range) }
+    {
         self.is_timed || self.range.is_bounded()
     }
 }
@@ -147,7 +151,9 @@ pub struct TimeRange {
 
 impl TimeRange {
     /// Whether it has a beginning or an end.
-    pub(crate) fn is_bounded(self) -> bool {
+    pub(crate) fn is_bounded(self) -> bool
+        ensures { result ≡ is_bounded self }
+    {
         self.since_ms.is_some() || self.until_ms.is_some()
     }
 

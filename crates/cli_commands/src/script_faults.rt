@@ -1,6 +1,13 @@
 //! The reason why a line of a script is refused.
 
-ghost use Rattle.std.specs.Prelude.{◌≡◌, ◌↔◌, IfOk, IsSome, None};
+ghost use Rattle.std.specs.Char.{is_ascii_hexdigit};
+ghost use Rattle.std.specs.List.{list_all};
+ghost use Rattle.std.specs.Prelude.{◌≡◌, ◌↔◌, if◌then◌else◌, IfOk, IsSome, length, None};
+ghost use Rattle.std.specs.Prelude.{option_map};
+ghost use Rattle.cli_commands.specs.Forms.{form_of};
+ghost use Rattle.cli_commands.specs.RowFaults.{centre_at, IsByForm, IsByCentre};
+ghost use Rattle.cli_commands.specs.declared.script_faults.RowFault.{RowFault as Why};
+ghost use Rattle.cli_commands.specs.declared.script_faults.RowFault.TheVariants.{Bytes, Frame, OddDigits};
 ghost use Rattle.text_script.specs.Script.{row_asks};
 
 use crate::nearest::{Nearest, nearest_centre, nearest_of};
@@ -99,16 +106,27 @@ fn fault_of_words<'a>(
 }
 
 // The fault of a line with another form than its event has.
-fn fault_of_form<'a>(alloc: Global, verb: &'a str) -> Result<RowFault<'a>, AllocError> {
-    let form = match verb {
-        "show" => "show",
-        "train" => "train CENTRE BYTES",
-        "set" => "set CENTRE SECTION",
-        "unset" => "unset CENTRE SECTION",
-        "deliver" => "deliver CENTRE CENTRE FRAME",
-        _ => return Ok(RowFault::Verb(verb, nearest_of(alloc, verb, &VERBS)?)),
-    };
-    Ok(RowFault::Form(form))
+fn fault_of_form<'a>(alloc: Global, verb: &'a str) -> Result<RowFault<'a>, AllocError>
+    ensures { IfOk result (IsByForm (form_of verb.now) verb.now) }
+{
+    match form_of(verb) {
+        Some(form) => Ok(RowFault::Form(form)),
+        None => Ok(RowFault::Verb(verb, nearest_of(alloc, verb, &VERBS)?)),
+    }
+}
+
+// The form of an event. None if no event has this name.
+fn form_of(verb: &str) -> Option<&'static str>
+    ensures { option_map (λ form. form.now) result ≡ form_of verb.now }
+{
+    match verb {
+        "show" => Some("show"),
+        "train" => Some("train CENTRE BYTES"),
+        "set" => Some("set CENTRE SECTION"),
+        "unset" => Some("unset CENTRE SECTION"),
+        "deliver" => Some("deliver CENTRE CENTRE FRAME"),
+        _ => None,
+    }
 }
 
 // The fault of a centre's name. If the line has the centre, it is the other fault.
@@ -117,14 +135,19 @@ fn fault_at_centre<'a>(
     line: &'a Line,
     centre: &'a str,
     other: RowFault<'a>,
-) -> Result<RowFault<'a>, AllocError> {
+) -> Result<RowFault<'a>, AllocError>
+    ensures { IfOk result (IsByCentre (centre_at line.now centre.now) centre.now other.entry) }
+{
     if line.centre_named(centre).is_some() {
         return Ok(other);
     }
     Ok(RowFault::Centre(centre, nearest_centre(alloc, line, centre)?))
 }
 
-fn fault_of_bytes(digits: &str) -> RowFault<'_> {
+fn fault_of_bytes(digits: &str) -> RowFault<'_>
+    ensures { result ≡ (if list_all is_ascii_hexdigit digits.now then OddDigits (length digits.now)
+        else Bytes digits.entry) }
+{
     if digits.bytes().all(|digit| digit.is_ascii_hexdigit()) {
         RowFault::OddDigits(digits.len())
     } else {
@@ -138,7 +161,12 @@ fn fault_of_delivery<'a>(
     from: &'a str,
     to: &'a str,
     number: &'a str,
-) -> Result<RowFault<'a>, AllocError> {
+) -> Result<RowFault<'a>, AllocError>
+    // The first centre's name is tested first.
+    ensures { IfOk result (λ fault. (second : Why)
+        × IsByCentre (centre_at line.now to.now) to.now (Frame number.entry) second
+        × IsByCentre (centre_at line.now from.now) from.now second fault) }
+{
     let second = fault_at_centre(alloc, line, to, RowFault::Frame(number))?;
     fault_at_centre(alloc, line, from, second)
 }

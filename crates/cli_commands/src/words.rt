@@ -1,6 +1,8 @@
-ghost use Rattle.std.specs.Prelude.{◌≡◌, IfSome, Some, codes, option_map};
+ghost use Rattle.std.specs.Prelude.{◌≡◌, IfOk, IfSome, None, Some, codes, false, map, option_map, unwrap_or};
 ghost use Rattle.clap.specs.Matches.{subcommand_name_of};
-ghost use Rattle.cli_commands.specs.Words.{IsFlag, command_of, task_command, value};
+ghost use Rattle.clap.specs.Words.{kind_of};
+ghost use Rattle.cli_commands.specs.Words.{AreTrains, IsCutOf, IsFlag, IsNumber, command_of, task_command, unmatched};
+ghost use Rattle.cli_commands.specs.Words.{value, values};
 
 mod serving;
 
@@ -29,7 +31,10 @@ pub fn requested<'a, S: AsStr>(alloc: Global, words: &'a [S]) -> Result<Request<
     }
 }
 
-fn unmatched<'a>(error: Error) -> Result<Request<'a>, Fault<'a>> {
+// The request or the fault of arguments that the table of the commands does not match.
+fn unmatched<'a>(error: Error) -> Result<Request<'a>, Fault<'a>>
+    ensures { result ≡ unmatched (kind_of error) error }
+{
     match error.kind() {
         ErrorKind::OutOfMemory => Err(AllocError.into()),
         ErrorKind::DisplayVersion => Ok(Request::Version),
@@ -39,20 +44,22 @@ fn unmatched<'a>(error: Error) -> Result<Request<'a>, Fault<'a>> {
 
 /// The lines of `tell` in its arguments; none if they are on standard input.
 pub fn lines_of<'a, S: AsStr>(alloc: Global, words: &'a [S]) -> Result<Vec<&'a str>, Fault<'a>> {
-    match matched(alloc, words) {
-        Ok(matches) => given_lines(alloc, &matches),
-        Err(_) => Err(Fault::Words),
+    let Ok(matches) = matched(alloc, words) else {
+        return Err(Fault::Words);
+    };
+    match matches.subcommand() {
+        Some((_, words)) => Ok(given_lines(alloc, words)?),
+        None => Ok(Vec::new(alloc)),
     }
 }
 
-fn given_lines<'a>(alloc: Global, matches: &ArgMatches<'a>) -> Result<Vec<&'a str>, Fault<'a>> {
-    let mut lines = Vec::new(alloc);
-    if let Some((_, words)) = matches.subcommand()
-        && let Some(given) = words.get_strs("LINE")
-    {
-        lines.extend_from_slice(given)?;
+fn given_lines<'a>(alloc: Global, words: &ArgMatches<'a>) -> Result<Vec<&'a str>, AllocError>
+    ensures { IfOk result (λ lines. map (λ line. line.now) lines.items ≡ values words.now (codes "LINE")) }
+{
+    match words.get_strs("LINE") {
+        Some(given) => given.to_vec(alloc),
+        None => Ok(Vec::new(alloc)),
     }
-    Ok(lines)
 }
 
 // The request of matched arguments. It is there: each required argument has a value, and each number is in its range.
@@ -219,7 +226,10 @@ fn named_trains<'a>(words: &ArgMatches<'a>) -> Option<Request<'a>>
 
 // The options of `trains`.
 fn trains_words(words: &ArgMatches<'_>) -> TrainsWords
-    ensures { IsFlag words.now (codes "no-release") result.is_shut }
+    ensures trains { AreTrains words.now result }
+    ensures late { IsNumber 8 words.now (codes "late") result.late }
+    ensures seconds { IsNumber 32 words.now (codes "seconds") result.seconds }
+    ensures release { IsFlag words.now (codes "no-release") result.is_shut }
 {
     TrainsWords {
         trains: words.get_one("trains"),
@@ -252,13 +262,18 @@ fn named_demo<'a>(words: &ArgMatches<'a>) -> Request<'a>
         },
         None => Request::Demo {
             file,
-            settings: settings_of(words),
+            settings: demo_settings(words),
         },
     }
 }
 
-// The options of `demo --page`.
-fn live_words(words: &ArgMatches<'_>) -> TrainsWords {
+// The options of `demo`.
+fn live_words(words: &ArgMatches<'_>) -> TrainsWords
+    ensures trains { AreTrains words.now result }
+    ensures late { result.late ≡ None }
+    ensures seconds { IsNumber 32 words.now (codes "events") result.seconds }
+    ensures release { result.is_shut ≡ false }
+{
     TrainsWords {
         trains: words.get_one("trains"),
         loss: words.get_one("loss"),
@@ -270,20 +285,35 @@ fn live_words(words: &ArgMatches<'_>) -> TrainsWords {
 }
 
 // The options of `demo` without `--page`.
-fn settings_of(words: &ArgMatches<'_>) -> Settings
+fn demo_settings(words: &ArgMatches<'_>) -> Settings
     ensures { IsFlag words.now (codes "script") result.is_script }
 {
+    settings_of(live_words(words), words.get_flag("script"))
+}
+
+// The settings of `demo` without `--page`.
+fn settings_of(trains: TrainsWords, is_script: bool) -> Settings
+    ensures { result ≡ record {
+      trains = unwrap_or trains.trains 64;
+      loss = unwrap_or trains.loss 0;
+      seed = unwrap_or trains.seed 0;
+      events = unwrap_or trains.seconds 20000;
+      is_script = is_script;
+    } }
+{
     Settings {
-        trains: words.get_one("trains").unwrap_or(64),
-        loss: words.get_one("loss").unwrap_or(0),
-        seed: words.get_one("seed").unwrap_or(0),
-        events: words.get_one("events").unwrap_or(20_000),
-        is_script: words.get_flag("script"),
+        trains: trains.trains.unwrap_or(64),
+        loss: trains.loss.unwrap_or(0),
+        seed: trains.seed.unwrap_or(0),
+        events: trains.seconds.unwrap_or(20_000),
+        is_script,
     }
 }
 
 // The part of a run that `picture` draws.
-fn cut_of(words: &ArgMatches<'_>) -> Cut {
+fn cut_of(words: &ArgMatches<'_>) -> Cut
+    ensures { IsCutOf words.now result }
+{
     Cut {
         from: words.get_one("from"),
         to: words.get_one("to"),
