@@ -31,7 +31,9 @@ pub fn encode<'a, F: Files, O: Write, E: Write>(
 }
 
 // The fault of the command. A faulty line of the file is named.
-fn fault_of<'a, E: Write>(fields: &'a str, fault: EncodeFault, err: &mut E) -> Fault<'a> {
+fn fault_of<'a, E: Write>(fields: &'a str, fault: EncodeFault, err: &mut E) -> Fault<'a>
+    ensures { (status_of result ≡ 3) ⊎ (status_of result ≡ 5) ⊎ (status_of result ≡ 6) }
+{
     match fault {
         EncodeFault::Memory => AllocError.into(),
         EncodeFault::Write => Fault::Write,

@@ -1,10 +1,11 @@
-ghost use Rattle.std.specs.Prelude.{◌≡◌, IfOk, IfSome, None, Some, codes, false, map, option_map, unwrap_or};
+ghost use Rattle.std.specs.Prelude.{◌≡◌, IfOk, IfSome, None, Some, codes, map, option_map};
 ghost use Rattle.clap.specs.Matches.{subcommand_name_of};
 ghost use Rattle.clap.specs.Words.{kind_of};
-ghost use Rattle.cli_commands.specs.Words.{AreTrains, IsCutOf, IsFlag, IsNumber, command_of, task_command, unmatched};
+ghost use Rattle.cli_commands.specs.Words.{IsCutOf, IsFlag, command_of, task_command, unmatched};
 ghost use Rattle.cli_commands.specs.Words.{value, values};
 
 mod serving;
+mod trains;
 
 use crate::decode::Decoding;
 use crate::diagram::Drawing;
@@ -15,9 +16,9 @@ pub use crate::requests::{
 };
 use crate::time_range::{axis_of, range_of};
 use crate::words::serving::named_serve;
+use crate::words::trains::{named_demo, named_trains};
 use clap::error::ErrorKind;
 use clap::{ArgMatches, Error};
-use cli_demo::Settings;
 use std::alloc::{AllocError, Global};
 use std::convert::AsStr;
 use text_replay::Cut;
@@ -214,33 +215,6 @@ fn named_drive<'a>(words: &ArgMatches<'a>) -> Option<Request<'a>>
     })
 }
 
-fn named_trains<'a>(words: &ArgMatches<'a>) -> Option<Request<'a>>
-    ensures { IfSome result (λ request. command_of request ≡ codes "trains") }
-{
-    Some(Request::Trains {
-        port: words.get_one("PORT")?,
-        file: words.get_str("FILE")?,
-        words: trains_words(words),
-    })
-}
-
-// The options of `trains`.
-fn trains_words(words: &ArgMatches<'_>) -> TrainsWords
-    ensures trains { AreTrains words.now result }
-    ensures late { IsNumber 8 words.now (codes "late") result.late }
-    ensures seconds { IsNumber 32 words.now (codes "seconds") result.seconds }
-    ensures release { IsFlag words.now (codes "no-release") result.is_shut }
-{
-    TrainsWords {
-        trains: words.get_one("trains"),
-        loss: words.get_one("loss"),
-        late: words.get_one("late"),
-        seed: words.get_one("seed"),
-        seconds: words.get_one("seconds"),
-        is_shut: words.get_flag("no-release"),
-    }
-}
-
 fn named_tell<'a>(words: &ArgMatches<'a>) -> Option<Request<'a>>
     ensures { IfSome result (λ request. command_of request ≡ codes "tell") }
 {
@@ -248,66 +222,6 @@ fn named_tell<'a>(words: &ArgMatches<'a>) -> Option<Request<'a>>
         endpoint: words.get_str("ENDPOINT")?,
         timeout_s: words.get_one("timeout"),
     }))
-}
-
-fn named_demo<'a>(words: &ArgMatches<'a>) -> Request<'a>
-    ensures { command_of result ≡ codes "demo" }
-{
-    let file = words.get_str("FILE");
-    match words.get_one("page") {
-        Some(page) => Request::LivePage {
-            file,
-            page,
-            words: live_words(words),
-        },
-        None => Request::Demo {
-            file,
-            settings: demo_settings(words),
-        },
-    }
-}
-
-// The options of `demo`.
-fn live_words(words: &ArgMatches<'_>) -> TrainsWords
-    ensures trains { AreTrains words.now result }
-    ensures late { result.late ≡ None }
-    ensures seconds { IsNumber 32 words.now (codes "events") result.seconds }
-    ensures release { result.is_shut ≡ false }
-{
-    TrainsWords {
-        trains: words.get_one("trains"),
-        loss: words.get_one("loss"),
-        late: None,
-        seed: words.get_one("seed"),
-        seconds: words.get_one("events"),
-        is_shut: false,
-    }
-}
-
-// The options of `demo` without `--page`.
-fn demo_settings(words: &ArgMatches<'_>) -> Settings
-    ensures { IsFlag words.now (codes "script") result.is_script }
-{
-    settings_of(live_words(words), words.get_flag("script"))
-}
-
-// The settings of `demo` without `--page`.
-fn settings_of(trains: TrainsWords, is_script: bool) -> Settings
-    ensures { result ≡ record {
-      trains = unwrap_or trains.trains 64;
-      loss = unwrap_or trains.loss 0;
-      seed = unwrap_or trains.seed 0;
-      events = unwrap_or trains.seconds 20000;
-      is_script = is_script;
-    } }
-{
-    Settings {
-        trains: trains.trains.unwrap_or(64),
-        loss: trains.loss.unwrap_or(0),
-        seed: trains.seed.unwrap_or(0),
-        events: trains.seconds.unwrap_or(20_000),
-        is_script,
-    }
 }
 
 // The part of a run that `picture` draws.
