@@ -27,11 +27,10 @@ use crate::rows::{play_nodes, play_rows};
 use crate::simulator::simulate;
 use anyhow::bail;
 use std::alloc::{AllocError, Global};
-use std::env;
-use std::io;
 use std::io::Write;
 use std::process::ExitCode;
 use std::sync::Wait;
+use std::{env, io};
 
 // The forms of the arguments.
 const FORMS: &str =
