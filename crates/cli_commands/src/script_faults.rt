@@ -1,13 +1,10 @@
 //! The reason why a line of a script is refused.
 
-ghost use Rattle.std.specs.Char.{is_ascii_hexdigit};
-ghost use Rattle.std.specs.List.{list_all};
-ghost use Rattle.std.specs.Prelude.{◌≡◌, ◌↔◌, if◌then◌else◌, IfOk, IsSome, length, None};
-ghost use Rattle.std.specs.Prelude.{option_map};
+ghost use Rattle.std.specs.Prelude.{◌≡◌, ◌↔◌, IfOk, IsSome, None, option_map};
 ghost use Rattle.cli_commands.specs.Forms.{form_of};
 ghost use Rattle.cli_commands.specs.RowFaults.{centre_at, IsByForm, IsByCentre};
 ghost use Rattle.cli_commands.specs.declared.script_faults.RowFault.{RowFault as Why};
-ghost use Rattle.cli_commands.specs.declared.script_faults.RowFault.TheVariants.{Bytes, Frame, OddDigits};
+ghost use Rattle.cli_commands.specs.declared.script_faults.RowFault.TheVariants.{Frame};
 ghost use Rattle.text_script.specs.Script.{row_asks};
 
 use crate::nearest::{Nearest, nearest_centre, nearest_of};
@@ -144,10 +141,7 @@ fn fault_at_centre<'a>(
     Ok(RowFault::Centre(centre, nearest_centre(alloc, line, centre)?))
 }
 
-fn fault_of_bytes(digits: &str) -> RowFault<'_>
-    ensures { result ≡ (if list_all is_ascii_hexdigit digits.now then OddDigits (length digits.now)
-        else Bytes digits.entry) }
-{
+fn fault_of_bytes(digits: &str) -> RowFault<'_> {
     if digits.bytes().all(|digit| digit.is_ascii_hexdigit()) {
         RowFault::OddDigits(digits.len())
     } else {
