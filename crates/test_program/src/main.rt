@@ -3,10 +3,9 @@
 //! program plays the runs of 100 seeds of the simulator, a train's start over two nodes, and the cases of the folder
 //! `rows`. Each case is a command with its files, the expected print and the exit status. The program prints each
 //! difference, and then the number of cases that passed. `nodes` plays only the start over two nodes. `simulate FIRST
-//! COUNT` plays the runs of COUNT seeds from FIRST on, and prints their number. At a fault it prints the last steps,
-//! the seed and the reason, and ends with status 1. `codec TURNS` prints the messages a second of the codec. `answers
-//! LINE SCRIPT` prints the answers of a line's centres to a script of events. `time LINE SCRIPT TURNS` plays the script
-//! this many times, and prints the events a second and the bytes of one turn's messages to trains. `commits LINE SCRIPT
+//! COUNT` plays the runs of COUNT seeds from FIRST on, and prints their number. At a fault it prints the seed and the
+//! reason, and ends with status 1. `codec TURNS` prints the messages a second of the codec. `answers LINE SCRIPT`
+//! prints the answers of a line's centres to a script of events. `time LINE SCRIPT TURNS` plays the script this many times, and prints the events a second and the bytes of one turn's messages to trains. `commits LINE SCRIPT
 //! TURNS` does the same with commits to the logs of the centres. `lines LINE SCRIPT TURNS` makes the lines of their
 //! journals, and prints the lines a second and the bytes of one turn. `merge LINE ENTRIES` merges logs with this many
 //! entries, one log for each centre of a line. It prints the count of merged entries, and the nanoseconds for each.
@@ -27,11 +26,10 @@ use crate::rows::{play_nodes, play_rows};
 use crate::simulator::simulate;
 use anyhow::bail;
 use std::alloc::{AllocError, Global};
-use std::env;
-use std::io;
 use std::io::Write;
 use std::process::ExitCode;
 use std::sync::Wait;
+use std::{env, io};
 
 // The forms of the arguments.
 const FORMS: &str =

@@ -1,15 +1,15 @@
 //! The disks of the journals, in memory.
 
-use crate::simulator::lots::{below, in_hundred};
-use rand_pcg::Pcg32;
+use crate::simulator::run::Run;
 use serve_journal::DurableFile;
-use std::alloc::{AllocError, Global};
+use std::alloc::Global;
+use std::cell::Cell;
 use std::io;
 use std::io::ErrorKind;
-use std::sync::Mutex;
+use std::rc::Rc;
 
 /// The fate of the next write.
-#[derive(Clone, Copy, PartialEq, Eq)]
+#[derive(Clone, Copy)]
 pub enum Fate {
     /// All of it is durable.
     Good,
@@ -22,99 +22,126 @@ pub enum Fate {
 /// The file of a journal on its disk.
 #[derive(Drop)]
 pub struct Platter {
-    pub bytes: Vec<u8>,
+    alloc: Global,
+    bytes: Cell<Vec<u8>>,
     /// The number of durable bytes.
-    pub durable: usize,
-    pub fate: Fate,
+    pub durable: Cell<usize>,
+    pub fate: Cell<Fate>,
     /// Whether a program has locked the file.
-    pub is_locked: bool,
+    is_locked: Cell<bool>,
 }
 
 impl Platter {
     /// An empty file.
     pub fn new(alloc: Global) -> Platter {
         Platter {
-            bytes: Vec::new(alloc),
-            durable: 0,
-            fate: Fate::Good,
-            is_locked: false,
+            alloc,
+            bytes: Cell::new(Vec::new(alloc)),
+            durable: Cell::new(0),
+            fate: Cell::new(Fate::Good),
+            is_locked: Cell::new(false),
         }
     }
 
+    // Takes the bytes out of the file, until they are set again.
+    fn take(&self) -> Vec<u8> {
+        self.bytes.replace(Vec::new(self.alloc))
+    }
+
+    /// A copy of the first bytes, or of all.
+    pub fn read(&self, run: &Run, length: usize) -> Vec<u8> {
+        let bytes = self.take();
+        let mut copy = Vec::new(self.alloc);
+        run.extend(&mut copy, bytes.get(..length).unwrap_or(&bytes));
+        self.bytes.set(bytes);
+        copy
+    }
+
+    fn append(&self, more: &[u8]) {
+        let mut bytes = self.take();
+        let _ = bytes.extend_from_slice(more);
+        self.bytes.set(bytes);
+    }
+
+    // The number of bytes, after the file was cut to at most this many.
+    fn cut(&self, length: usize) -> usize {
+        let mut bytes = self.take();
+        bytes.truncate(length);
+        let length = bytes.len();
+        self.bytes.set(bytes);
+        self.durable.set(self.durable.get().min(length));
+        length
+    }
+
     /// The machine crashes. A drawn part of the bytes that are not durable stays, perhaps with other bytes after it.
-    pub fn crash(&mut self, draws: &mut Pcg32) -> Result<(), AllocError> {
-        let rest = self.bytes.len().saturating_sub(self.durable);
-        let kept = below(draws, rest.saturating_add(1));
-        self.bytes.truncate(self.durable.saturating_add(kept));
-        self.fate = Fate::Good;
-        self.is_locked = false;
-        if kept > 0 && in_hundred(draws, 30) {
-            self.bytes.extend_from_slice(&[0xFF, 0x00, b'7'])?;
+    pub fn crash(&self, run: &Run) {
+        let durable = self.durable.get();
+        let rest = self.cut(usize::MAX).saturating_sub(durable);
+        let kept = run.below(rest.saturating_add(1));
+        self.cut(durable.saturating_add(kept));
+        self.set_locked(false);
+        if kept > 0 && run.in_hundred(30) {
+            self.append(&[0xFF, 0x00, b'7']);
         }
-        Ok(())
+    }
+
+    /// Locks the file, or unlocks it. The disk is good then.
+    pub fn set_locked(&self, is_locked: bool) {
+        self.is_locked.set(is_locked);
+        self.fate.set(Fate::Good);
     }
 }
 
 /// Locks all journals. If a program has one of them, none is locked.
-pub fn lock_all(platters: &[Mutex<Platter>]) -> bool {
-    for platter in platters {
-        match platter.try_lock() {
-            Some(platter) if !platter.is_locked => {}
-            _ => return false,
+pub fn lock_all(run: &Run) -> bool {
+    for platter in &run.platters {
+        if platter.is_locked.get() {
+            return false;
         }
     }
-    set_locked(platters, true);
+    set_locked(run, true);
     true
 }
 
-/// Locks all journals, or unlocks them. The disks are good then.
-pub fn set_locked(platters: &[Mutex<Platter>], is_locked: bool) {
-    for platter in platters {
-        if let Some(mut platter) = platter.try_lock() {
-            platter.is_locked = is_locked;
-            platter.fate = Fate::Good;
-        }
+/// Locks all journals, or unlocks them.
+pub fn set_locked(run: &Run, is_locked: bool) {
+    for platter in &run.platters {
+        platter.set_locked(is_locked);
     }
 }
 
 /// A file on a disk, opened for writing.
 #[derive(Drop)]
-pub struct Disk<'a> {
-    pub platter: &'a Mutex<Platter>,
+pub struct Disk {
+    pub platter: Rc<Platter, Global>,
 }
 
-// No two steps have the lock at once.
-fn busy() -> io::Error {
-    io::Error::from(ErrorKind::WouldBlock)
+fn result_of(is_done: bool) -> io::Result<()> {
+    if is_done {
+        return Ok(());
+    }
+    Err(io::Error::from(ErrorKind::Other))
 }
 
-impl DurableFile for Disk<'_> {
+impl DurableFile for Disk {
     fn append(&mut self, bytes: &[u8]) -> io::Result<()> {
-        let mut platter = self.platter.try_lock().ok_or(busy())?;
-        let Fate::Torn(count) = platter.fate else {
-            return Ok(platter.bytes.extend_from_slice(bytes)?);
+        let (front, is_done) = match self.platter.fate.get() {
+            Fate::Torn(count) => (bytes.get(..count).unwrap_or(bytes), false),
+            _ => (bytes, true),
         };
-        let front = bytes.get(..count).unwrap_or(bytes);
-        platter.bytes.extend_from_slice(front)?;
-        Err(io::Error::from(ErrorKind::StorageFull))
+        self.platter.append(front);
+        result_of(is_done)
     }
 
     fn sync(&mut self) -> io::Result<()> {
-        let mut platter = self.platter.try_lock().ok_or(busy())?;
-        if platter.fate == Fate::Unsynced {
-            return Err(io::Error::from(ErrorKind::Other));
+        let is_done = !matches!(self.platter.fate.get(), Fate::Unsynced);
+        if is_done {
+            self.platter.durable.set(self.platter.cut(usize::MAX));
         }
-        platter.durable = platter.bytes.len();
-        Ok(())
+        result_of(is_done)
     }
 
     fn cut(&mut self, length: u64) -> io::Result<()> {
-        let mut platter = self.platter.try_lock().ok_or(busy())?;
-        if length > platter.bytes.len() as u64 {
-            return Err(io::Error::from(ErrorKind::InvalidInput));
-        }
-        platter.bytes.truncate(length as usize);
-        platter.durable = platter.durable.min(length as usize);
-        Ok(())
+        result_of(self.platter.cut(length as usize) as u64 == length)
     }
 }

@@ -1,41 +1,31 @@
-//! Judges bytes that leave the centres, at that time.
+//! Judges what leaves the centres, at that time.
 
-use crate::simulator::answering::{JOURNAL_FAULT, SCRIPT_FAULT};
-use crate::simulator::connection::Connection;
+use crate::simulator::connection::{Connection, Leaving};
+use crate::simulator::control::{JOURNAL_FAULT, SCRIPT_FAULT};
 use crate::simulator::judge::{Judge, Said};
-use crate::simulator::trouble::{Done, Trouble};
+use crate::simulator::run::Run;
 use rbc_msgs::TrackBody;
-use std::sync::Wait;
 
-const TOO_EARLY: Trouble = Trouble("an answer left before its event was durable");
+const TOO_EARLY: &str = "an answer left before its event was durable";
 
-impl Judge<'_> {
-    /// A message of a centre left over a connection to a train. The last one over it had the T_TRAIN `heard`.
-    pub fn to_train<R: Wait>(&mut self, rt: &R, said: &Said, heard: Option<u32>) -> Done<()> {
-        if !self.has_said(said) {
-            self.catch_up(rt)?;
-            if !self.has_said(said) {
-                return Err(TOO_EARLY);
-            }
+impl Judge {
+    /// A message of a centre left over a connection to a train.
+    pub fn to_train(&mut self, run: &Run, leaving: &Leaving) {
+        if !self.has_said(&leaving.said) {
+            self.catch_up(run);
+            run.must(self.has_said(&leaving.said), TOO_EARLY);
         }
-        let is_next = match heard {
-            Some(last) => said.message.t_train() == last.saturating_add(1),
-            None => said.message.body() == TrackBody::SystemVersion,
+        let message = &leaving.said.message;
+        let is_next = match leaving.before {
+            Some(last) => message.t_train() == last.saturating_add(1),
+            None => message.body() == TrackBody::SystemVersion,
         };
-        if !is_next {
-            return Err(Trouble("a message was left out, or came out of order"));
-        }
-        Ok(())
+        run.must(is_next, "a message was left out, or came out of order");
     }
 
     // Whether an event of a journal has this message.
     fn has_said(&self, said: &Said) -> bool {
-        for other in &self.said {
-            if *other == *said {
-                return true;
-            }
-        }
-        false
+        self.said.iter().any(|it| it == said)
     }
 
     /// Whether the last message of a centre to a train left over this connection, or none did.
@@ -50,21 +40,15 @@ impl Judge<'_> {
     }
 
     /// A text left over a control connection.
-    pub fn to_control<R: Wait>(&mut self, rt: &R, text: &[u8]) -> Done<()> {
-        if text == JOURNAL_FAULT.as_bytes() || text == SCRIPT_FAULT.as_bytes() {
-            return Ok(());
+    pub fn to_control(&mut self, run: &Run, text: &[u8]) {
+        if !self.may_leave(text) {
+            self.catch_up(run);
+            run.must(self.may_leave(text), TOO_EARLY);
         }
-        if self.may_leave(text) {
-            return Ok(());
-        }
-        self.catch_up(rt)?;
-        if self.may_leave(text) {
-            return Ok(());
-        }
-        Err(TOO_EARLY)
     }
 
-    // Whether the text shows a line that the journals had, or answers an event that they have. An answer leaves once.
+    // Whether the text shows a line that the journals had, or answers an event that they have, or is a fault. An answer
+    // leaves once.
     fn may_leave(&mut self, text: &[u8]) -> bool {
         if let Some(shown) = text.strip_prefix("> show\n".as_bytes()) {
             return self.is_shown(shown);
@@ -77,24 +61,28 @@ impl Judge<'_> {
                 return true;
             }
         }
-        false
+        text == JOURNAL_FAULT.as_bytes() || text == SCRIPT_FAULT.as_bytes()
     }
 
     // Whether each centre's part of a shown line is one that its journal had.
     fn is_shown(&self, text: &[u8]) -> bool {
         let mut rest = text;
         for known in &self.known {
-            let mut after = None;
-            for shown in &known.shown {
-                if let Some(found) = rest.strip_prefix(shown.as_slice()) {
-                    after = Some(found);
-                }
-            }
-            match after {
-                Some(found) => rest = found,
+            match after_one_of(&known.shown, rest) {
+                Some(after) => rest = after,
                 None => return false,
             }
         }
         true
     }
+}
+
+// The bytes after one of these texts, if a text begins with it.
+fn after_one_of<'a>(texts: &[Vec<u8>], bytes: &'a [u8]) -> Option<&'a [u8]> {
+    for text in texts {
+        if let Some(after) = bytes.strip_prefix(text.as_slice()) {
+            return Some(after);
+        }
+    }
+    None
 }

@@ -1,15 +1,10 @@
 //! The thread that writes the journal of a centre.
 
-use crate::simulator::disk::{Disk, Fate, Platter};
-use crate::simulator::trouble::{Done, MEMORY, Trouble};
-use rbc_line::Line;
+use crate::simulator::disk::Disk;
+use crate::simulator::run::{MEMORY, Run};
 use rbc_log::CentreLog;
-use rbc_node::Node;
 use serve_control::world_event;
 use serve_journal::{JournalFile, Kept};
-use serve_workers::writing::Release;
-use std::alloc::Global;
-use std::sync::{Mutex, Wait};
 use text_journal::{Entry, first_line};
 
 /// The most events of one write.
@@ -28,32 +23,24 @@ pub struct Reach {
     pub is_closed: bool,
 }
 
-impl Release for Reach {
-    ghost use Rattle.std.specs.Prelude.{if◌then◌else◌, nat_le};
-
-    ghost awaits = { λ s stamp. if nat_le stamp s.begun then 0 else stamp };
-
-    fn awaited(&self, stamp: u32) -> u32 {
+impl Reach {
+    /// The stamp that a step waits for, if it has to wait for this event: 0 if the journal had it at the start.
+    pub fn awaited(&self, stamp: u32) -> u32 {
         if stamp <= self.begun { 0 } else { stamp }
     }
 
-    fn release<R: Wait>(&self, _rt: &R, centre: u8, stamp: u32) -> Option<Kept> {
-        let kept = self.kept.again();
-        if kept.shows(centre, stamp) {
-            Some(kept)
-        } else {
-            None
-        }
+    /// Whether an answer with this stamp may not be handed in yet. It waits for its event if it has a reply to the
+    /// interlocking, or if the journal can't be written.
+    pub fn holds_up(&self, stamp: u32, has_word: bool) -> bool {
+        let waits = !self.is_closed && (has_word || self.is_stuck);
+        waits && self.kept.stamp() < self.awaited(stamp)
     }
 }
 
 /// The journal of a centre, with the events that are being written.
 #[derive(Drop)]
-pub struct Journal<'a> {
-    alloc: Global,
-    line: &'a Line,
-    file: JournalFile<Disk<'a>>,
-    platter: &'a Mutex<Platter>,
+pub struct Journal {
+    file: JournalFile<Disk>,
     pub reach: Reach,
     /// Whether the centres are to end.
     pub is_ending: bool,
@@ -61,108 +48,99 @@ pub struct Journal<'a> {
     written: usize,
     // The events that were copied from the log.
     copied: Vec<Entry>,
-    // Shows the events that were written, and their number.
-    shown: Option<(Kept, usize)>,
+    // Shows that they were written.
+    shown: Option<Kept>,
 }
 
-impl<'a> Journal<'a> {
-    /// The journal of a centre, opened after its first `length` bytes. Its first line is written if it has none.
-    pub fn open(
-        alloc: Global,
-        line: &'a Line,
-        centre: u8,
-        platter: &'a Mutex<Platter>,
-        length: usize,
-    ) -> Done<Journal<'a>> {
-        let Ok(mut file) = JournalFile::open(Disk { platter }, length as u64) else {
-            return Err(Trouble("a journal can't be opened"));
-        };
-        if length == 0 {
-            let mut first = first_line(alloc, line, centre)?;
-            first.push('\n')?;
-            if file.add(first.as_bytes()).is_err() {
-                return Err(Trouble("a journal can't be begun"));
-            }
+impl Journal {
+    /// The journal of a centre that has resumed, opened after its first `length` bytes. Its first line is written if it
+    /// has none. `None` if a step fails.
+    pub fn open(run: &Run, log: &CentreLog, length: usize) -> Option<Journal> {
+        let platter = run.platters.get(usize::from(log.number()))?;
+        let platter = platter.clone().ok()?;
+        let mut file = JournalFile::open(Disk { platter }, length as u64).ok()?;
+        if length == 0 && !add_first_line(run, log.number(), &mut file) {
+            return None;
         }
         let reach = Reach {
-            begun: 0,
-            kept: Kept::no_event(centre),
+            begun: last_stamp(log),
+            kept: Kept::no_event(log.number()),
             is_stuck: false,
             is_closed: false,
         };
-        Ok(Journal {
-            alloc,
-            line,
+        Some(Journal {
             file,
-            platter,
             reach,
             is_ending: false,
-            written: 0,
-            copied: Vec::new(alloc),
+            written: log.entries().len(),
+            copied: Vec::new(run.alloc),
             shown: None,
         })
     }
 
-    /// The centre has resumed: the journal has the events of its node.
-    pub fn begin<R: Wait>(&mut self, rt: &R, node: &Node) {
-        let look = node.look(rt);
-        self.reach.begun = last_stamp(look.log());
-        self.written = look.log().entries().len();
-    }
-
-    /// Whether the journal has all events of the node, or was given up.
-    pub fn has_ended<R: Wait>(&self, rt: &R, node: &Node) -> bool {
-        self.reach.is_closed || self.written >= node.look(rt).log().entries().len()
+    /// Whether the journal has all events of the log, or was given up.
+    pub fn has_ended(&self, log: &CentreLog) -> bool {
+        self.reach.is_closed || self.written >= log.entries().len()
     }
 
     /// The thread copies the next events, writes them, or reports that they are written. After an error none of them
-    /// counts as written; after `stop` the journal is given up then. The time is in units of 10 ms.
-    pub fn step<R: Wait>(&mut self, rt: &R, node: &Node, now: u32, fate: Fate) -> Done<bool> {
+    /// counts as written; after `stop` the journal is given up then. The result is whether it took a step.
+    pub fn step(&mut self, run: &Run, log: &CentreLog) -> bool {
         if self.reach.is_closed {
-            return Ok(false);
+            return false;
         }
-        if let Some((kept, count)) = self.shown.take() {
-            self.reach.kept = kept;
-            self.reach.is_stuck = false;
-            self.written = self.written.saturating_add(count);
-            return Ok(true);
+        if let Some(kept) = self.shown.take() {
+            self.report(kept);
+        } else if self.copied.is_empty() {
+            self.copy(run, log);
+            return !self.copied.is_empty();
+        } else {
+            self.write(run);
         }
-        if self.copied.is_empty() {
-            self.copy_after(node.look(rt).log(), now)?;
-            return Ok(!self.copied.is_empty());
-        }
-        self.write(fate);
-        self.copied.clear();
-        Ok(true)
+        true
     }
 
-    fn write(&mut self, fate: Fate) {
-        if let Some(mut platter) = self.platter.try_lock() {
-            platter.fate = fate;
-        }
-        match self.file.keep(self.alloc, self.line, &self.copied) {
-            Ok(Some(kept)) => self.shown = Some((kept, self.copied.len())),
-            Ok(None) => {}
+    fn report(&mut self, kept: Kept) {
+        self.reach.kept = kept;
+        self.reach.is_stuck = false;
+        self.written = self.written.saturating_add(self.copied.len());
+        self.copied.clear();
+    }
+
+    fn write(&mut self, run: &Run) {
+        match self.file.keep(run.alloc, &run.line, &self.copied) {
+            Ok(kept) => self.shown = kept,
             Err(_) => {
+                self.copied.clear();
                 self.reach.is_stuck = true;
                 self.reach.is_closed = self.is_ending;
             }
         }
     }
 
-    // Copies the events of a centre that the journal lacks. The time is in units of 10 ms.
-    fn copy_after(&mut self, log: &CentreLog, now: u32) -> Done<()> {
-        for entry in log.entries().iter().skip(self.written).take(MOST_AT_ONCE) {
-            let Ok(event) = world_event(self.alloc, entry) else {
-                return Err(MEMORY);
-            };
-            self.copied.push(Entry {
-                stamp: entry.outcome.stamp,
-                time_ms: Some(u64::from(now) * 10),
-                event,
-            })?;
+    // Copies the events that the journal lacks.
+    fn copy(&mut self, run: &Run, log: &CentreLog) {
+        let entries = log.entries().get(self.written..).unwrap_or_default();
+        for entry in entries.iter().take(MOST_AT_ONCE) {
+            match world_event(run.alloc, entry) {
+                Ok(event) => run.add(
+                    &mut self.copied,
+                    Entry {
+                        stamp: entry.outcome.stamp,
+                        time_ms: Some(run.now_ms()),
+                        event,
+                    },
+                ),
+                Err(_) => run.note(MEMORY),
+            }
         }
-        Ok(())
+    }
+}
+
+fn add_first_line(run: &Run, centre: u8, file: &mut JournalFile<Disk>) -> bool {
+    match first_line(run.alloc, &run.line, centre) {
+        Ok(mut line) => line.push('\n').is_ok() && file.add(line.as_bytes()).is_ok(),
+        Err(_) => false,
     }
 }
 

@@ -1,19 +1,14 @@
-//! Judges the bytes that left the centres by the durable bytes of the journals, and by nothing else.
+//! Judges what left the centres by the durable bytes of the journals, and by nothing else.
 
-ghost use Rattle.std.specs.Prelude.{◌<◌, length};
-
-use crate::simulator::answering::text_of;
-use crate::simulator::disk::Platter;
-use crate::simulator::resumed::{Resumed, commit_entry, entries_in, resumed_of};
-use crate::simulator::site::RATE;
-use crate::simulator::trouble::{ABSENT, Done, MEMORY, Trouble};
+use crate::simulator::control::text_of;
+use crate::simulator::resumed::{Resumed, commit_entry, entries_in, is_same, resumed_of};
+use crate::simulator::run::{MEMORY, Run};
+use crate::simulator::site::{RATE, Site};
 use crate::simulator::watching::Promise;
 use rbc_centre::{Event, Outcome};
-use rbc_line::Line;
 use rbc_log::CentreLog;
 use rbc_msgs::TrackMsg;
-use std::alloc::Global;
-use std::sync::{Mutex, Wait};
+use rbc_node::ShareFault;
 use text_journal::{Entry, in_order};
 use text_script::print::print_section;
 use text_script::{SectionView, WorldEvent, mark_of};
@@ -26,12 +21,12 @@ pub struct Said {
     pub message: TrackMsg,
 }
 
-/// A centre as its journal has it, and the events of the journal that the judge has taken.
+/// What the judge knows of a centre.
 #[derive(Drop)]
 pub struct Known {
-    // Their number.
+    // The number of the events of its journal that the judge has taken.
     taken: usize,
-    // Their number when the centres started.
+    // That number when the centres started.
     begun: usize,
     /// The use of the centre's sections at the first, and after each event.
     pub shown: Vec<Vec<u8>>,
@@ -39,12 +34,9 @@ pub struct Known {
 
 /// The centres as their journals have them, and the messages that may leave.
 #[derive(Drop)]
-pub struct Judge<'a> {
-    alloc: Global,
-    line: &'a Line,
-    platters: &'a [Mutex<Platter>],
+pub struct Judge {
     /// By the centres' numbers, as `known`.
-    pub centres: Vec<Resumed>,
+    centres: Vec<Resumed>,
     pub known: Vec<Known>,
     promise: Promise,
     /// The messages to trains, in order.
@@ -55,167 +47,150 @@ pub struct Judge<'a> {
     since: u64,
 }
 
-impl<'a> Judge<'a> {
+impl Judge {
     /// No event has happened.
-    pub fn new(alloc: Global, line: &'a Line, platters: &'a [Mutex<Platter>]) -> Done<Judge<'a>> {
-        let centres = resumed_of(alloc, line)?;
-        let promise = Promise::new(alloc, line)?;
-        Ok(Judge {
-            alloc,
-            line,
-            platters,
-            centres,
-            known: Vec::new(alloc),
-            promise,
-            said: Vec::new(alloc),
-            answers: Vec::new(alloc),
+    pub fn new(run: &Run) -> Judge {
+        let mut judge = Judge {
+            centres: resumed_of(run),
+            known: Vec::new(run.alloc),
+            promise: Promise::new(run),
+            said: Vec::new(run.alloc),
+            answers: Vec::new(run.alloc),
             since: 0,
-        })
+        };
+        judge.add_known(run);
+        judge
     }
 
-    /// Shows the sections of the centres before their first event.
-    pub fn show_first<R: Wait>(&mut self, rt: &R) -> Done<()> {
-        for at in 0..self.centres.len() {
-            self.known.push(Known {
+    fn add_known(&mut self, run: &Run) {
+        for centre in &self.centres {
+            let mut known = Known {
                 taken: 0,
                 begun: 0,
-                shown: Vec::new(self.alloc),
-            })?;
-            self.show(rt, at)?;
+                shown: Vec::new(run.alloc),
+            };
+            known.show(run, &centre.log);
+            run.add(&mut self.known, known);
         }
-        Ok(())
     }
 
-    /// The centres have started now. The time is in units of 10 ms.
-    pub fn begin(&mut self, now: u32) {
+    /// The centres have started now.
+    pub fn begin(&mut self, run: &Run) {
         self.answers.clear();
-        self.since = u64::from(now) * 10;
+        self.since = run.now_ms();
         for known in &mut self.known {
             known.begun = known.taken;
         }
     }
 
     /// Takes the new events of the journals.
-    pub fn catch_up<R: Wait>(&mut self, rt: &R) -> Done<()> {
-        let line = self.line;
-        let mut entries = Vec::new(self.alloc);
-        for centre in 0..line.centre_count() {
-            entries.push(self.new_entries(line, centre)?)?;
+    pub fn catch_up(&mut self, run: &Run) {
+        let mut entries = Vec::new(run.alloc);
+        for (centre, known) in self.centres.iter().zip(&mut self.known) {
+            run.add(&mut entries, known.new_entries(run, centre.number));
         }
-        for entry in in_order(self.alloc, entries)? {
-            self.take(rt, &entry)?;
+        match in_order(run.alloc, entries) {
+            Ok(entries) => {
+                for entry in &entries {
+                    self.take(run, entry);
+                }
+            }
+            Err(_) => run.note(MEMORY),
         }
-        Ok(())
-    }
-
-    // The durable events of a journal that were not taken.
-    fn new_entries(&mut self, line: &Line, centre: u8) -> Done<Vec<Entry>>
-        requires { centre < length line.now.centres }
-    {
-        let at = usize::from(centre);
-        let (Some(known), Some(platter)) = (self.known.get_mut(at), self.platters.get(at)) else {
-            return Err(ABSENT);
-        };
-        let mut all = durable_entries(self.alloc, line, centre, platter)?;
-        let (count, taken) = (all.len(), known.taken);
-        if count < taken {
-            return Err(Trouble("durable events of a journal were cut off"));
-        }
-        known.taken = count;
-        Ok(all.split_off(taken)?)
     }
 
     // Takes an event of a journal. The promise holds after it, and its engine keeps to its rate.
-    fn take<R: Wait>(&mut self, rt: &R, entry: &Entry) -> Done<()> {
+    fn take(&mut self, run: &Run, entry: &Entry) {
         let at = usize::from(entry.centre());
-        let outcome = commit_entry(rt, self.alloc, &mut self.centres, entry)?;
-        self.promise.holds_after(&entry.event, &outcome)?;
-        self.expect(entry, outcome)?;
-        self.judge_rate(rt, at, entry.time_ms.unwrap_or(0))?;
-        self.show(rt, at)
+        let answer = commit_entry(run, &mut self.centres, entry);
+        let text = text_of(run, &entry.event, &answer);
+        self.promise.holds_after(run, &text);
+        self.expect(run, entry, &answer);
+        if let WorldEvent::Set { .. } | WorldEvent::Unset { .. } = &entry.event {
+            run.add(&mut self.answers, text);
+        }
+        if let Some(known) = self.known.get_mut(at)
+            && let Some(centre) = self.centres.get(at)
+        {
+            let time_ms = entry.time_ms.unwrap_or(0).saturating_sub(self.since);
+            known.judge_rate(run, &centre.log, time_ms);
+            known.show(run, &centre.log);
+        }
     }
 
-    // The messages and the answer to an event may leave now.
-    fn expect(&mut self, entry: &Entry, outcome: Outcome) -> Done<()> {
+    // The messages of an answer may leave now.
+    fn expect(&mut self, run: &Run, entry: &Entry, answer: &Result<Outcome, ShareFault>) {
+        let Ok(outcome) = answer else {
+            return;
+        };
         for saying in outcome.sayings.as_slice() {
-            self.said.push(Said {
+            let said = Said {
                 centre: entry.centre(),
                 nid_engine: saying.nid_engine,
                 message: saying.message,
-            })?;
+            };
+            run.add(&mut self.said, said);
         }
-        if let WorldEvent::Set { .. } | WorldEvent::Unset { .. } = &entry.event {
-            let text = text_of(self.alloc, self.line, &entry.event, &Ok(outcome))?;
-            self.answers.push(text)?;
-        }
-        Ok(())
-    }
-
-    // The engine of the last event of a centre does not have more messages than its rate allows.
-    fn judge_rate<R: Wait>(&self, rt: &R, at: usize, time_ms: u64) -> Done<()> {
-        let (Some(known), Some(centre)) = (self.known.get(at), self.centres.get(at)) else {
-            return Err(ABSENT);
-        };
-        let look = centre.node.look(rt);
-        let count = messages_of_last(look.log(), known.begun);
-        if count > most_messages(time_ms.saturating_sub(self.since)) {
-            return Err(Trouble("an engine sends faster than its rate"));
-        }
-        Ok(())
-    }
-
-    // Notes the use of a centre's sections.
-    fn show<R: Wait>(&mut self, rt: &R, at: usize) -> Done<()> {
-        let (Some(known), Some(centre)) = (self.known.get_mut(at), self.centres.get(at)) else {
-            return Err(ABSENT);
-        };
-        let mut text = Vec::new(self.alloc);
-        add_sections(self.line, centre.node.look(rt).log(), &mut text)?;
-        if known.shown.last().is_none_or(|last| *last != text) {
-            known.shown.push(text)?;
-        }
-        Ok(())
     }
 
     /// Whether each centre has taken all frames to it.
-    pub fn has_all_frames<R: Wait>(&self, rt: &R) -> bool {
+    pub fn has_all_frames(&self) -> bool {
         for to in &self.centres {
             for from in &self.centres {
-                if has_frame(rt, from, to) {
+                let taken = to.log.core().taken(from.number);
+                if from.log.frame(to.number, taken.saturating_add(1)).is_some() {
                     return false;
                 }
             }
         }
         true
     }
+
+    /// Whether the running centres have the events of the journals, and no others.
+    pub fn has_events_of(&self, sites: &[Site]) -> bool {
+        for (ours, site) in self.centres.iter().zip(sites) {
+            if !is_same(&ours.log, &site.own.log) {
+                return false;
+            }
+        }
+        true
+    }
 }
 
-// Whether a centre has sent a frame to another that this has not taken.
-fn has_frame<R: Wait>(rt: &R, from: &Resumed, to: &Resumed) -> bool {
-    let taken = to.node.look(rt).log().core().taken(from.share.centre());
-    let next = taken.saturating_add(1);
-    from.node.frame(rt, to.share.centre(), next).is_some()
-}
+impl Known {
+    // The durable events of the centre's journal that were not taken.
+    fn new_entries(&mut self, run: &Run, centre: u8) -> Vec<Entry> {
+        if let Some(platter) = run.platters.get(usize::from(centre)) {
+            let bytes = platter.read(run, platter.durable.get());
+            let mut all = entries_in(run, centre, &bytes);
+            let (count, taken) = (all.len(), self.taken);
+            if taken <= count
+                && let Ok(new) = all.split_off(taken)
+            {
+                self.taken = count;
+                return new;
+            }
+        }
+        run.note("durable events of a journal were cut off");
+        Vec::new(run.alloc)
+    }
 
-fn durable_entries(
-    alloc: Global,
-    line: &Line,
-    centre: u8,
-    platter: &Mutex<Platter>,
-) -> Done<Vec<Entry>>
-    requires { centre < length line.now.centres }
-{
-    let Some(platter) = platter.try_lock() else {
-        return Err(ABSENT);
-    };
-    let durable = platter.bytes.get(..platter.durable).unwrap_or_default();
-    entries_in(alloc, line, centre, durable)
-}
+    // The engine of the last event does not have more messages than its rate allows in this time.
+    fn judge_rate(&self, run: &Run, log: &CentreLog, time_ms: u64) {
+        let gained = time_ms.saturating_mul(u64::from(RATE.per_second)) / 1_000;
+        let most = gained.saturating_add(u64::from(RATE.burst) + 1);
+        let is_kept = messages_of_last(log, self.begun) <= most;
+        run.must(is_kept, "an engine sends faster than its rate");
+    }
 
-// The most messages of an engine in this time.
-fn most_messages(time_ms: u64) -> u64 {
-    let gained = time_ms.saturating_mul(u64::from(RATE.per_second)) / 1_000;
-    gained.saturating_add(u64::from(RATE.burst) + 1)
+    // Notes the use of the centre's sections.
+    fn show(&mut self, run: &Run, log: &CentreLog) {
+        let mut text = Vec::new(run.alloc);
+        add_sections(run, log, &mut text);
+        if self.shown.last().is_none_or(|last| *last != text) {
+            run.add(&mut self.shown, text);
+        }
+    }
 }
 
 // The number of messages of the engine whose message is the last event, after the first `begun` events; 0 if that is
@@ -242,18 +217,16 @@ fn engine_of(entry: &rbc_log::Entry) -> Option<u32> {
 }
 
 /// Adds the use of the sections of a centre's home to a text, as its log has it. A section in use is shown as kept.
-pub fn add_sections(line: &Line, log: &CentreLog, text: &mut Vec<u8>) -> Done<()> {
-    for s in 0..line.section_count() {
-        if line.is_home(log.number(), s) {
+pub fn add_sections(run: &Run, log: &CentreLog, text: &mut Vec<u8>) {
+    for s in 0..run.line.section_count() {
+        if run.line.is_home(log.number(), s) {
             let page = log.core().page(s);
             let section = SectionView {
                 mark: mark_of(page.entry, false),
                 is_wished: page.is_wished,
             };
-            if print_section(text, line, usize::from(s), &section).is_err() {
-                return Err(MEMORY);
-            }
+            let is_done = print_section(text, &run.line, usize::from(s), &section).is_ok();
+            run.must(is_done, MEMORY);
         }
     }
-    Ok(())
 }

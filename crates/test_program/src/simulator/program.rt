@@ -1,29 +1,23 @@
 //! The running centres: the values that their threads share.
 
-use crate::simulator::answering::Control;
-use crate::simulator::carrying::Link;
-use crate::simulator::connection::Connection;
-use crate::simulator::disk::Platter;
-use crate::simulator::lives::Found;
-use crate::simulator::resumed::{Resumed, commit_entry, resumed_of};
+use crate::simulator::connection::{Connection, Leaving};
+use crate::simulator::control::Control;
+use crate::simulator::link::Link;
+use crate::simulator::resumed::{Resumed, commit_entry, entries_in, resumed_of};
+use crate::simulator::run::{MEMORY, Run};
 use crate::simulator::site::Site;
-use crate::simulator::trouble::{ABSENT, Done};
 use crate::simulator::worker::Worker;
-use rbc_line::Line;
 use std::alloc::Global;
-use std::sync::{Mutex, Wait};
-use text_journal::{Entry, in_order};
+use text_journal::{in_order, whole_length};
 
 /// How many control connections there are.
 pub const CONTROLS: usize = 2;
 
-/// The centres that run in one process.
+/// The centres that run in one process. Without a centre no program runs.
 #[derive(Drop)]
-pub struct Program<'a> {
-    pub alloc: Global,
-    pub line: &'a Line,
+pub struct Program {
     /// By the centres' numbers.
-    pub sites: Vec<Site<'a>>,
+    pub sites: Vec<Site>,
     pub connections: Vec<Connection>,
     pub links: Vec<Link>,
     pub controls: Vec<Control>,
@@ -31,161 +25,215 @@ pub struct Program<'a> {
     pub is_stopped: bool,
 }
 
-impl<'a> Program<'a> {
-    /// No centre runs yet.
-    pub fn new(alloc: Global, line: &'a Line) -> Program<'a> {
+impl Program {
+    /// No program runs.
+    pub fn none(alloc: Global) -> Program {
         Program {
-            alloc,
-            line,
             sites: Vec::new(alloc),
             connections: Vec::new(alloc),
             links: Vec::new(alloc),
             controls: Vec::new(alloc),
-            is_stopped: false,
+            is_stopped: true,
         }
     }
 
-    /// The centres resume from the journals that were found, and go on.
-    pub fn resume<R: Wait>(
-        &mut self,
-        rt: &R,
-        platters: &'a [Mutex<Platter>],
-        found: Found,
-    ) -> Done<()> {
-        let Found { entries, lengths } = found;
-        let centres = self.taken_up(rt, entries)?;
-        for ((own, platter), length) in centres.into_iter().zip(platters).zip(lengths) {
-            let site = Site::open(rt, self.line, own, platter, length)?;
-            self.sites.push(site)?;
-        }
-        self.add_links(rt)?;
-        for _ in 0..CONTROLS {
-            self.add_control()?;
-        }
-        Ok(())
+    /// Whether a program runs.
+    pub fn runs(&self) -> bool {
+        !self.sites.is_empty()
     }
 
-    // The centres that have taken the events of their journals.
-    fn taken_up<R: Wait>(&self, rt: &R, entries: Vec<Vec<Entry>>) -> Done<Vec<Resumed>> {
-        let mut centres = resumed_of(self.alloc, self.line)?;
-        for entry in in_order(self.alloc, entries)? {
-            let _ = commit_entry(rt, self.alloc, &mut centres, &entry)?;
+    /// The centres resume from the bytes of the journals, and go on.
+    pub fn resume(&mut self, run: &Run, found: &[Vec<u8>]) {
+        let centres = taken_up(run, found);
+        for (own, bytes) in centres.into_iter().zip(found) {
+            match Site::open(run, own, whole_length(bytes)) {
+                Some(site) => run.add(&mut self.sites, site),
+                None => run.note("a journal can't be opened"),
+            }
         }
-        Ok(centres)
+        self.add_links(run);
+        self.add_controls(run);
+        self.is_stopped = false;
     }
 
-    fn add_links<R: Wait>(&mut self, rt: &R) -> Done<()> {
-        for from in 0..self.line.centre_count() {
+    fn add_links(&mut self, run: &Run) {
+        for from in 0..run.line.centre_count() {
             for site in &self.sites {
-                if self.line.linked(from, site.number()) {
-                    self.links.push(Link::new(rt, site, from))?;
+                if run.line.linked(from, site.own.number) {
+                    run.add(&mut self.links, Link::new(site, from));
                 }
             }
         }
-        Ok(())
     }
 
-    fn add_control(&mut self) -> Done<()> {
-        let mut workers = Vec::new(self.alloc);
-        for site in &self.sites {
-            workers.push(Worker::new(site.own.node.share()))?;
+    fn add_controls(&mut self, run: &Run) {
+        for _ in 0..CONTROLS {
+            run.add(&mut self.controls, Control::new(run.alloc));
+            for site in &mut self.sites {
+                let desk = Worker::new(site.own.new_share());
+                run.add(&mut site.desks, desk);
+            }
         }
-        self.controls.push(Control::new(self.alloc, workers))?;
-        Ok(())
     }
 
     /// Accepts a connection of the train of this engine, and returns its number. `None` if it is refused.
-    pub fn accept(&mut self, centre: usize, nid_engine: u32) -> Done<Option<usize>> {
-        let Some(site) = self.sites.get(centre) else {
-            return Err(ABSENT);
-        };
+    pub fn accept(&mut self, run: &Run, centre: usize, nid_engine: u32) -> Option<usize> {
+        let site = self.sites.get(centre)?;
         if self.is_stopped || site.journal.reach.is_stuck {
-            return Ok(None);
+            return None;
         }
         let number = self.connections.len();
-        self.connections
-            .push(Connection::new(self.alloc, site, nid_engine))?;
-        Ok(Some(number))
+        let connection = Connection::new(run.alloc, site.own.new_share(), nid_engine);
+        run.add(&mut self.connections, connection);
+        Some(number)
     }
 
-    /// The thread of a drawn link, or else of a drawn control connection, hands no answer in.
-    pub fn hold(&mut self, lot: usize) {
-        self.let_go_threads();
+    /// The thread that reads a connection hands an answer in, or reads the next message. The result is whether it took
+    /// a step, as of the other threads.
+    pub fn read(&mut self, run: &Run, number: usize) -> bool {
+        if let Some(connection) = self.connections.get_mut(number)
+            && let Some(site) = self.sites.get_mut(usize::from(connection.centre))
+        {
+            if !connection.worker.is_idle() {
+                let part = connection.worker.hand_in(&site.journal.reach);
+                return site.go_on(run, &mut self.connections, part, Some(number));
+            }
+            return connection.is_read && site.read(run, connection, number);
+        }
+        false
+    }
+
+    /// The thread that writes a connection writes the next reply, once the journal has its event. The result is the
+    /// message that leaves.
+    pub fn write(&mut self, number: usize) -> Option<Leaving> {
+        let connection = self.connections.get_mut(number)?;
+        let site = self.sites.get(usize::from(connection.centre))?;
+        connection.write(&site.journal.reach)
+    }
+
+    /// The sending thread of a link puts the next frame on it.
+    pub fn send(&mut self, at: usize) -> bool {
+        if let Some(link) = self.links.get_mut(at)
+            && let Some(site) = self.sites.get(usize::from(link.from))
+        {
+            return link.send(site);
+        }
+        false
+    }
+
+    /// The receiving thread of a link hands an answer in, or takes the next frame.
+    pub fn receive(&mut self, run: &Run, at: usize) -> bool {
+        if let Some(link) = self.links.get_mut(at)
+            && let Some(site) = self.sites.get_mut(usize::from(link.to))
+        {
+            if link.worker.is_idle() {
+                return link.receive(site);
+            }
+            let part = link.worker.hand_in(&site.journal.reach);
+            return site.go_on(run, &mut self.connections, part, None);
+        }
+        false
+    }
+
+    /// The thread of a drawn link, or else of a drawn control connection at a centre, hands no answer in.
+    pub fn hold(&mut self, run: &Run) {
+        self.let_go();
+        let lot = run.below(12);
         let after = lot.saturating_sub(self.links.len());
         if let Some(link) = self.links.get_mut(lot) {
             link.worker.is_held = true;
-        } else if let Some(control) = self.controls.get_mut(after % CONTROLS) {
-            control.hold(after / CONTROLS);
+        } else if let Some(site) = self.sites.get_mut(after / CONTROLS)
+            && let Some(desk) = site.desks.get_mut(after % CONTROLS)
+        {
+            desk.is_held = true;
         }
     }
 
-    /// No frame and no thread is held any more.
+    /// No thread is held any more, and no frame comes late or early.
     pub fn let_go(&mut self) {
         for link in &mut self.links {
             link.stray = None;
-        }
-        self.let_go_threads();
-    }
-
-    fn let_go_threads(&mut self) {
-        for link in &mut self.links {
             link.worker.is_held = false;
         }
-        for control in &mut self.controls {
-            control.let_go();
+        for site in &mut self.sites {
+            for desk in &mut site.desks {
+                desk.is_held = false;
+            }
         }
     }
 
-    /// No frame, thread or train is slow any more.
+    /// Each train reads again.
     pub fn calm_down(&mut self) {
+        self.let_go();
         for connection in &mut self.connections {
             connection.is_slow = false;
         }
-        self.let_go();
+    }
+
+    /// All sessions end.
+    pub fn shut_all(&mut self) {
+        for connection in &mut self.connections {
+            connection.is_shut = true;
+        }
     }
 
     /// Whether each answer was handed in, each line of the interlocking is answered, and no frame is on its way. The
     /// journals have all events, too. A journal that was given up holds nothing up.
-    pub fn is_at_rest<R: Wait>(&self, rt: &R) -> bool {
+    pub fn is_at_rest(&self) -> bool {
         for link in &self.links {
-            if !link.worker.is_idle() || self.has_frame(rt, link) {
+            if let Some(site) = self.sites.get(usize::from(link.from))
+                && link.is_busy(site)
+            {
                 return false;
             }
         }
-        for site in &self.sites {
-            if !site.journal.has_ended(rt, &site.own.node) {
-                return false;
-            }
-        }
-        for connection in &self.connections {
-            if !connection.worker.is_idle() {
-                return false;
-            }
-        }
-        self.has_no_command()
+        self.has_no_answer() && self.has_no_command()
+    }
+
+    // Whether the journals have all events, and each answer to a train was handed in.
+    fn has_no_answer(&self) -> bool {
+        self.sites
+            .iter()
+            .all(|it| it.journal.has_ended(&it.own.log))
+            && self.connections.iter().all(|it| it.worker.is_idle())
     }
 
     // Whether each line of the interlocking is answered.
     fn has_no_command(&self) -> bool {
-        for control in &self.controls {
-            if !control.is_idle() {
-                return false;
-            }
-        }
-        true
+        self.sites
+            .iter()
+            .all(|site| site.desks.iter().all(|it| it.is_idle()))
+            && self.controls.iter().all(|it| it.is_idle())
     }
 
     /// After `stop`, whether the centres have ended. Once no train is connected, no answer waits for a client of the
     /// interlocking that reads nothing.
-    pub fn ends<R: Wait>(&mut self, rt: &R) -> bool {
-        for connection in &self.connections {
-            if connection.is_read {
-                return false;
-            }
+    pub fn ends(&mut self) -> bool {
+        if self.connections.iter().any(|it| it.is_read) {
+            return false;
         }
         for control in &mut self.controls {
             control.end();
         }
-        self.is_at_rest(rt)
+        self.is_at_rest()
     }
+}
+
+// The centres that have taken the events of their journals.
+fn taken_up(run: &Run, found: &[Vec<u8>]) -> Vec<Resumed> {
+    let mut centres = resumed_of(run);
+    let mut entries = Vec::new(run.alloc);
+    for (centre, bytes) in centres.iter().zip(found) {
+        let whole = bytes.get(..whole_length(bytes)).unwrap_or_default();
+        run.add(&mut entries, entries_in(run, centre.number, whole));
+    }
+    match in_order(run.alloc, entries) {
+        Ok(entries) => {
+            for entry in &entries {
+                let _ = commit_entry(run, &mut centres, entry);
+            }
+        }
+        Err(_) => run.note(MEMORY),
+    }
+    centres
 }

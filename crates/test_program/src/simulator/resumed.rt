@@ -1,87 +1,119 @@
 //! Centres that take the events of their journals.
 
-ghost use Rattle.std.specs.Prelude.{◌<◌, length};
-
-use crate::simulator::trouble::{ABSENT, Done, Trouble};
+use crate::simulator::run::Run;
 use rbc_centre::{Event, Outcome};
-use rbc_line::Line;
+use rbc_log::CentreLog;
 use rbc_msgs::decode_train;
-use rbc_node::{Node, Open, Share};
-use std::alloc::{AllocError, Global};
+use rbc_node::{Node, Share, ShareFault};
+use std::alloc::Global;
 use std::str::from_utf8;
-use std::sync::Wait;
 use text_journal::{Entry, first_fallen, read_journal};
 use text_script::WorldEvent;
 
-/// A centre, and the receipts of the events that it took from a journal.
+/// A centre with its log, and the receipts of the events that it took from a journal.
 #[derive(Drop)]
 pub struct Resumed {
-    pub alloc: Global,
-    pub node: Node,
-    pub share: Share,
+    pub number: u8,
+    pub log: Box<CentreLog, Global>,
+    // Makes the shares of its threads, and takes no event.
+    node: Box<Node, Global>,
+    share: Share,
 }
 
-/// The centres of a line, before their first events.
-pub fn resumed_of(alloc: Global, line: &Line) -> Result<Vec<Resumed>, AllocError> {
-    let mut all = Vec::new(alloc);
-    for centre in 0..line.centre_count() {
-        let node = Node::new(alloc, line, centre)?;
+impl Resumed {
+    // A centre of the line before its first event. `None` if memory runs out.
+    fn new(run: &Run, number: u8) -> Option<Resumed> {
+        let log = new_log(run, number)?;
+        let node = new_node(run, number)?;
         let share = node.share();
-        all.push(Resumed { alloc, node, share })?;
+        Some(Resumed {
+            number,
+            log,
+            node,
+            share,
+        })
     }
-    Ok(all)
+
+    /// The share of one more thread.
+    pub fn new_share(&self) -> Share {
+        self.node.share()
+    }
+}
+
+fn new_log(run: &Run, number: u8) -> Option<Box<CentreLog, Global>> {
+    let line = &*run.line;
+    if number >= line.centre_count() {
+        return None;
+    }
+    let log = CentreLog::new(run.alloc, line, number).ok()?;
+    Box::new(run.alloc, log).ok()
+}
+
+fn new_node(run: &Run, number: u8) -> Option<Box<Node, Global>> {
+    let line = &*run.line;
+    if number >= line.centre_count() {
+        return None;
+    }
+    let node = Node::new(run.alloc, line, number).ok()?;
+    Box::new(run.alloc, node).ok()
+}
+
+/// The centres of the line, before their first events.
+pub fn resumed_of(run: &Run) -> Vec<Resumed> {
+    let mut all = Vec::new(run.alloc);
+    for number in 0..run.line.centre_count() {
+        if let Some(one) = Resumed::new(run, number) {
+            run.add(&mut all, one);
+        }
+    }
+    all
 }
 
 /// The entries of the whole lines of a journal.
-pub fn entries_in(alloc: Global, line: &Line, centre: u8, whole: &[u8]) -> Done<Vec<Entry>>
-    requires { centre < length line.now.centres }
-{
+pub fn entries_in(run: &Run, centre: u8, whole: &[u8]) -> Vec<Entry> {
     let text = from_utf8(whole).unwrap_or("no text");
-    let Ok(entries) = read_journal(alloc, line, centre, "", text) else {
-        return Err(Trouble("a journal can't be read"));
-    };
-    if first_fallen(&entries).is_some() {
-        return Err(Trouble("the stamps of a journal do not rise"));
+    let line = &*run.line;
+    if centre < line.centre_count()
+        && let Ok(entries) = read_journal(run.alloc, line, centre, "", text)
+        && first_fallen(&entries).is_none()
+    {
+        return entries;
     }
-    Ok(entries)
+    run.note("a journal can't be read, or its stamps do not rise");
+    Vec::new(run.alloc)
 }
 
 /// Commits an event of a journal at its centre. Its answer must have the stamp of the entry.
-pub fn commit_entry<R: Wait>(
-    rt: &R,
-    alloc: Global,
-    all: &mut [Resumed],
-    entry: &Entry,
-) -> Done<Outcome> {
-    let Some(event) = event_of(rt, alloc, all, entry) else {
-        return Err(Trouble("a journal has an event that no centre can take"));
-    };
-    let Some(centre) = all.get_mut(usize::from(entry.centre())) else {
-        return Err(ABSENT);
-    };
-    match centre.node.commit(rt, &Open, &mut centre.share, event) {
-        Ok(outcome) if outcome.stamp == entry.stamp => Ok(outcome),
-        _ => Err(Trouble("a journal has an event that does not fit")),
+pub fn commit_entry(run: &Run, all: &mut [Resumed], entry: &Entry) -> Result<Outcome, ShareFault> {
+    let event = event_of(run, all, &entry.event);
+    if let Some(event) = event
+        && let Some(centre) = all.get_mut(usize::from(entry.centre()))
+    {
+        let answer = centre.share.commit(&mut centre.log, event);
+        let is_same = answer.as_ref().is_ok_and(|it| it.stamp == entry.stamp);
+        run.must(is_same, "a journal has an event that does not fit");
+        return answer;
     }
+    run.note("a journal has an event that no centre can take");
+    Err(ShareFault::Stray)
 }
 
 // The event in the form in which its centre takes it. `None` if its bytes are not a message, or its frame was not sent.
-fn event_of<R: Wait>(rt: &R, alloc: Global, all: &[Resumed], entry: &Entry) -> Option<Event> {
-    match &entry.event {
-        WorldEvent::Train { bytes, .. } => Some(Event::Train(decode_train(alloc, bytes).ok()?)),
+fn event_of(run: &Run, all: &[Resumed], event: &WorldEvent) -> Option<Event> {
+    match event {
+        WorldEvent::Train { bytes, .. } => decode_train(run.alloc, bytes).ok().map(Event::Train),
         WorldEvent::Set { section, .. } => Some(Event::Set(*section)),
         WorldEvent::Unset { section, .. } => Some(Event::Unset(*section)),
         WorldEvent::Deliver { from, to, number } => {
-            let frame = all.get(usize::from(*from))?.node.frame(rt, *to, *number)?;
+            let frame = all.get(usize::from(*from))?.log.frame(*to, *number)?;
             Some(Event::Deliver { from: *from, frame })
         }
     }
 }
 
-/// Whether two centres have the same events, with the same outcomes.
-pub fn is_same<R: Wait>(rt: &R, one: &Resumed, other: &Resumed) -> bool {
-    let (one, other) = (one.node.look(rt), other.node.look(rt));
-    let (ours, theirs) = (one.log().entries(), other.log().entries());
+/// Whether two logs have the same events, with the same outcomes.
+pub fn is_same(one: &CentreLog, other: &CentreLog) -> bool {
+    let (ours, theirs) = (one.entries(), other.entries());
     if ours.len() != theirs.len() {
         return false;
     }

@@ -1,14 +1,14 @@
-//! A running centre: its node, its journal, and its ways to trains.
+//! A running centre: its log, its journal, and its ways to trains.
 
-use crate::simulator::disk::Platter;
+use crate::simulator::connection::{Connection, shut};
 use crate::simulator::journal::Journal;
 use crate::simulator::resumed::Resumed;
-use crate::simulator::trouble::{ABSENT, Done, Trouble};
+use crate::simulator::run::Run;
+use crate::simulator::worker::{Part, Worker};
 use rbc_centre::Saying;
-use rbc_line::Line;
+use rbc_msgs::TrackBody;
 use serve_workers::reading::{Bucket, Rate};
 use serve_workers::writing::{Lane, Reply};
-use std::sync::{Mutex, Wait};
 
 /// The rate of the messages of a train, and of all other engines together.
 pub const RATE: Rate = Rate {
@@ -16,110 +16,152 @@ pub const RATE: Rate = Rate {
     burst: 8,
 };
 
-/// A centre with its journal. For each train, and for all other engines together, it has a lane and a bucket.
+/// The way to a train, or to all engines together that are not of the line.
 #[derive(Drop)]
-pub struct Site<'a> {
-    pub line: &'a Line,
+pub struct Way {
+    lane: Lane,
+    pub bucket: Bucket,
+}
+
+/// A centre with its journal.
+#[derive(Drop)]
+pub struct Site {
     pub own: Resumed,
-    pub journal: Journal<'a>,
-    lanes: Vec<Lane>,
-    pub buckets: Vec<Bucket>,
+    pub journal: Journal,
+    /// By the trains' numbers. The last one is that of all other engines.
+    pub ways: Vec<Way>,
+    /// The threads that commit the commands of the interlocking, by the control connections' numbers.
+    pub desks: Vec<Worker>,
 }
 
-/// The connections that a message to a train has changed.
-#[derive(Clone, Copy)]
-pub struct Turned {
-    /// The one that its train has replaced.
-    pub ended: Option<usize>,
-    /// The one that serves the train now.
-    pub serving: Option<usize>,
-    /// Whether too many messages wait.
-    pub is_full: bool,
-}
-
-impl<'a> Site<'a> {
+impl Site {
     /// A centre that has resumed opens its journal after its first `length` bytes.
-    pub fn open<R: Wait>(
-        rt: &R,
-        line: &'a Line,
-        own: Resumed,
-        platter: &'a Mutex<Platter>,
-        length: usize,
-    ) -> Done<Site<'a>> {
-        let alloc = own.alloc;
-        let mut journal = Journal::open(alloc, line, own.share.centre(), platter, length)?;
-        journal.begin(rt, &own.node);
+    pub fn open(run: &Run, own: Resumed, length: usize) -> Option<Site> {
+        let journal = Journal::open(run, &own.log, length)?;
         let mut site = Site {
-            line,
             own,
             journal,
-            lanes: Vec::new(alloc),
-            buckets: Vec::new(alloc),
+            ways: Vec::new(run.alloc),
+            desks: Vec::new(run.alloc),
         };
-        match site.add_lanes() {
-            Ok(()) => Ok(site),
-            Err(trouble) => Err(trouble),
+        site.add_ways(run);
+        Some(site)
+    }
+
+    fn add_ways(&mut self, run: &Run) {
+        for _ in 0..=run.line.train_count() {
+            let way = Way {
+                lane: Lane::new(run.alloc),
+                bucket: Bucket::new(RATE),
+            };
+            run.add(&mut self.ways, way);
         }
     }
 
-    fn add_lanes(&mut self) -> Done<()> {
-        for _ in 0..=self.line.train_count() {
-            self.lanes.push(Lane::new(self.own.alloc))?;
-            self.buckets.push(Bucket::new(RATE))?;
+    // The way to an engine.
+    fn way(&mut self, run: &Run, nid_engine: u32) -> Option<&mut Way> {
+        let others = run.line.train_count();
+        let place = run.line.train_number(nid_engine).unwrap_or(others);
+        self.ways.get_mut(usize::from(place))
+    }
+
+    /// The thread that reads a connection reads the next message, if its train may send one, and commits it. At the end
+    /// of the bytes the connection ends. The result is whether it took a step.
+    pub fn read(&mut self, run: &Run, connection: &mut Connection, number: usize) -> bool {
+        if let Some((length, nid_engine)) = connection.next() {
+            if !self.admits(run, nid_engine) {
+                return false;
+            }
+            if connection.commit(run, &mut self.own.log, length) {
+                return true;
+            }
+        } else if !connection.is_over() {
+            return false;
         }
-        Ok(())
+        connection.is_read = false;
+        self.leave(run, connection.nid_engine, number);
+        true
     }
 
-    /// The number of the centre.
-    pub fn number(&self) -> u8 {
-        self.own.share.centre()
-    }
-
-    // The place of the lane of an engine, and of its bucket. Engines that are not of the line share one.
-    fn place_of(&self, nid_engine: u32) -> usize {
-        let others = self.line.train_count();
-        usize::from(self.line.train_number(nid_engine).unwrap_or(others))
-    }
-
-    /// Whether an engine may send a message now. The time is in units of 10 ms.
-    pub fn admits(&mut self, nid_engine: u32, now: u32) -> bool {
-        let place = self.place_of(nid_engine);
-        match self.buckets.get_mut(place) {
-            Some(bucket) => bucket.ask(u64::from(now) * 10).is_ok(),
+    // Whether an engine may send a message now.
+    fn admits(&mut self, run: &Run, nid_engine: u32) -> bool {
+        match self.way(run, nid_engine) {
+            Some(way) => way.bucket.ask(run.now_ms()).is_ok(),
             None => false,
         }
     }
 
-    /// A connection serves its train no more.
-    pub fn leave(&mut self, nid_engine: u32, number: usize) {
-        let place = self.place_of(nid_engine);
-        if let Some(lane) = self.lanes.get_mut(place) {
-            lane.leave(number);
+    // A connection serves its train no more.
+    fn leave(&mut self, run: &Run, nid_engine: u32, number: usize) {
+        if let Some(way) = self.way(run, nid_engine) {
+            way.lane.leave(number);
         }
     }
 
-    /// Submits a message to the lane of its train. `begins` is the connection that begins to serve the train.
-    pub fn say(&mut self, begins: Option<usize>, saying: Saying, stamp: u32) -> Done<Turned> {
-        let place = self.place_of(saying.nid_engine);
-        let reply = Reply::new(self.own.alloc, saying.message)?.answering(self.number(), stamp);
-        let Some(lane) = self.lanes.get_mut(place) else {
-            return Err(ABSENT);
+    /// A thread has handed in a part of an answer, if that may leave. `own` is the connection that it reads. The result
+    /// is whether it took a step.
+    pub fn go_on(
+        &mut self,
+        run: &Run,
+        connections: &mut [Connection],
+        part: Option<Part>,
+        own: Option<usize>,
+    ) -> bool {
+        let Some(Part::Message(saying, stamp)) = part else {
+            return part.is_some();
         };
-        let before = lane.serving();
-        let said = lane.say(begins, reply);
-        if begins.is_some() && before == begins && said.ended.is_some() {
-            return Err(Trouble("a second initiation ended its connection"));
+        let begins = beginning(connections, &saying, own);
+        let centre = self.own.number;
+        if let Ok(reply) = Reply::new(run.alloc, saying.message)
+            && let Some(way) = self.way(run, saying.nid_engine)
+        {
+            way.say(run, begins, reply.answering(centre, stamp), connections);
         }
-        Ok(Turned {
-            ended: said.ended,
-            serving: lane.serving(),
-            is_full: said.taken.is_err(),
-        })
+        true
+    }
+}
+
+// The connection that begins to serve a train, if the message is an answer to its initiation. It was not ended.
+fn beginning(connections: &[Connection], saying: &Saying, own: Option<usize>) -> Option<usize> {
+    let number = own?;
+    let connection = connections.get(number)?;
+    let is_open = connection.is_read && !connection.is_shut;
+    let is_version = matches!(saying.message.body(), TrackBody::SystemVersion);
+    (is_open && is_version).then_some(number)
+}
+
+impl Way {
+    // Submits a reply, and releases those whose turn has come. `begins` is the connection that begins to serve the
+    // train.
+    fn say(
+        &mut self,
+        run: &Run,
+        begins: Option<usize>,
+        reply: Reply,
+        connections: &mut [Connection],
+    ) {
+        let is_again = begins.is_some() && self.lane.serving() == begins;
+        let said = self.lane.say(begins, reply);
+        let is_right = !is_again || said.ended.is_none();
+        run.must(is_right, "a second initiation ended its connection");
+        shut(connections, said.ended);
+        if said.taken.is_err() {
+            shut(connections, self.lane.serving());
+        }
+        self.release(run, connections);
     }
 
-    /// The next message to a train whose turn has come.
-    pub fn release(&mut self, nid_engine: u32) -> Option<Reply> {
-        let place = self.place_of(nid_engine);
-        self.lanes.get_mut(place)?.release()
+    // Sends each message whose turn it is to the writer of the connection that serves the train. If there is none,
+    // they are dropped.
+    fn release(&mut self, run: &Run, connections: &mut [Connection]) {
+        let serving = self.lane.serving().unwrap_or(usize::MAX);
+        for _ in 0..u32::MAX {
+            let Some(reply) = self.lane.release() else {
+                return;
+            };
+            if let Some(to) = connections.get_mut(serving) {
+                to.take(run, reply);
+            }
+        }
     }
 }

@@ -1,11 +1,10 @@
 //! The trains of a run. They run as their authority allows, and follow the orders of centres, as `law_trains` asks. One
 //! engine is not of the line, and does not listen.
 
-use crate::simulator::lots::{below, in_hundred, some_below};
-use crate::simulator::trouble::{ABSENT, Done};
-use rand_pcg::Pcg32;
-use rbc_line::{Line, Section};
-use rbc_msgs::{TrackMsg, encode_train};
+use crate::simulator::judge::Said;
+use crate::simulator::run::{MEMORY, Run};
+use rbc_line::Section;
+use rbc_msgs::{TrainMsg, encode_train};
 use std::alloc::Global;
 use train_unit::driving::{
     Driver, LENGTH, MARGIN, Place, Speech, message, placed_on, position, section_of,
@@ -23,8 +22,8 @@ const MOST_FRONT: u32 = 20_000_000;
 pub struct Train {
     pub nid_engine: u32,
     ends: Ends,
-    unit: OnBoardUnit,
-    driver: Driver,
+    unit: Box<OnBoardUnit, Global>,
+    driver: Box<Driver, Global>,
     listens: bool,
     /// The bytes of its last message.
     pub last: Vec<u8>,
@@ -43,40 +42,28 @@ pub enum Manner {
     Initiation,
 }
 
-/// A message that a train is to send.
-#[derive(Clone, Copy)]
-pub struct Turn<'a> {
-    pub line: &'a Line,
-    pub sections: &'a [Section],
-    pub centre: u8,
-    /// In units of 10 ms.
-    pub now: u32,
-    pub manner: Manner,
-}
-
 impl Train {
     // A train that has sent and received nothing.
-    fn new(alloc: Global, line: &Line, place: Place, listens: bool) -> Done<Train> {
-        let calls = vec![in alloc; None; usize::from(line.centre_count())]?;
-        Ok(Train {
+    fn new(run: &Run, place: &Place, listens: bool) -> Option<Train> {
+        let unit = Box::new(run.alloc, OnBoardUnit::new(place.nid_engine)).ok()?;
+        let driver = Box::new(run.alloc, Driver::new(place.goal)).ok()?;
+        Some(Train {
             nid_engine: place.nid_engine,
             ends: place.ends,
-            unit: OnBoardUnit::new(place.nid_engine),
-            driver: Driver::new(place.goal),
+            unit,
+            driver,
             listens,
-            last: Vec::new(alloc),
-            calls,
+            last: Vec::new(run.alloc),
+            calls: vec![in run.alloc; None; run.platters.len()].ok()?,
         })
     }
 
     /// It runs as far as it may, at most 200 metres.
-    pub fn run(&mut self, draws: &mut Pcg32) {
-        let Some(limit) = self.unit.may_reach(self.ends.front) else {
-            return;
-        };
+    pub fn run(&mut self, run: &Run) {
+        let limit = self.unit.may_reach(self.ends.front).unwrap_or(0);
         let limit = limit.min(u64::from(MOST_FRONT)) as u32;
         let most = limit.min(self.driver.goal).saturating_sub(MARGIN);
-        let far = self.ends.front.saturating_add(some_below(draws, 2_000));
+        let far = self.ends.front.saturating_add(run.below(2_000) as u32);
         let front = far.min(most);
         if front > self.ends.front && front <= MOST_FRONT {
             self.ends.front = front;
@@ -84,99 +71,97 @@ impl Train {
         }
     }
 
-    /// Makes its next message to a centre, if it sends one.
-    pub fn speak(&mut self, alloc: Global, turn: &Turn<'_>) -> Done<bool> {
-        let Some(at) = section_of(turn.sections, self.ends) else {
-            return Err(ABSENT);
-        };
-        let Some(section) = turn.sections.get(at) else {
-            return Err(ABSENT);
-        };
-        let stamp = turn.now.max(self.driver.clock.saturating_add(1));
-        match self.speech(turn, section.home, stamp) {
-            Some(speech) => self.say(alloc, turn, *section, speech, stamp),
-            None => Ok(turn.manner == Manner::DueOrLast && !self.last.is_empty()),
+    /// It uses no connection any more.
+    pub fn hang_up(&mut self) {
+        for call in &mut self.calls {
+            *call = None;
         }
     }
 
-    fn speech(&mut self, turn: &Turn<'_>, home: u8, stamp: u32) -> Option<Speech> {
-        self.driver.engage(home, turn.now);
-        self.driver.reopen(turn.centre, turn.now);
-        if turn.manner == Manner::Initiation {
+    /// Makes its next message to a centre, if it sends one.
+    pub fn speak(&mut self, run: &Run, centre: u8, manner: Manner) -> bool {
+        let at = section_of(&run.sections, self.ends).unwrap_or(usize::MAX);
+        let Some(section) = run.sections.get(at) else {
+            return false;
+        };
+        let stamp = run.now.get().max(self.driver.clock.saturating_add(1));
+        match self.speech(run, centre, section.home, manner) {
+            Some(speech) => {
+                let is_still = matches!(speech, Speech::EndOfMission);
+                let position = position(run.line.nid_c(), *section, self.ends.front, is_still);
+                match message(run.alloc, stamp, self.nid_engine, speech, position) {
+                    Ok(message) => {
+                        let is_sent = self.say(run, centre, &message, manner);
+                        if is_sent {
+                            self.driver.has_sent(centre, speech, stamp);
+                        }
+                        is_sent
+                    }
+                    Err(_) => false,
+                }
+            }
+            None => manner == Manner::DueOrLast && !self.last.is_empty(),
+        }
+    }
+
+    fn speech(&mut self, run: &Run, centre: u8, home: u8, manner: Manner) -> Option<Speech> {
+        let now = run.now.get();
+        let stamp = now.max(self.driver.clock.saturating_add(1));
+        self.driver.engage(home, now);
+        self.driver.reopen(centre, now);
+        if manner == Manner::Initiation {
             return Some(Speech::Next(NextMessage::InitiationOfSession));
         }
         self.driver
-            .speech(&self.unit, turn.centre, home, stamp, self.ends)
+            .speech(&self.unit, centre, home, stamp, self.ends)
     }
 
-    fn say(
-        &mut self,
-        alloc: Global,
-        turn: &Turn<'_>,
-        section: Section,
-        speech: Speech,
-        stamp: u32,
-    ) -> Done<bool> {
-        let is_still = matches!(speech, Speech::EndOfMission);
-        let position = position(turn.line.nid_c(), section, self.ends.front, is_still);
-        let message = message(alloc, stamp, self.nid_engine, speech, position)?;
-        let is_allowed = self
-            .unit
-            .say(turn.line, turn.centre, &message, self.ends)
-            .is_ok();
-        if !is_allowed && turn.manner != Manner::Initiation {
-            return Ok(false);
+    // Its unit may send the message. An initiation is sent though it may not.
+    fn say(&mut self, run: &Run, centre: u8, message: &TrainMsg, manner: Manner) -> bool {
+        let said = self.unit.say(&run.line, centre, message, self.ends);
+        if said.is_err() && manner != Manner::Initiation {
+            return false;
         }
-        self.last = encode_train(alloc, &message)?;
-        self.driver.has_sent(turn.centre, speech, stamp);
-        Ok(true)
+        match encode_train(run.alloc, message) {
+            Ok(bytes) => self.last = bytes,
+            Err(_) => run.note(MEMORY),
+        }
+        true
     }
 
-    /// It receives a message of a centre, or it does not, by lot. The time is in units of 10 ms.
-    pub fn hear(
-        &mut self,
-        draws: &mut Pcg32,
-        line: &Line,
-        centre: u8,
-        message: &TrackMsg,
-        now: u32,
-    ) {
-        if self.listens && !in_hundred(draws, 5) && centre < line.centre_count() {
-            self.unit.hears(line, centre, message);
-            self.driver.hears(line, centre, message, now);
+    /// It receives a message of a centre, or it does not, by lot.
+    pub fn hear(&mut self, run: &Run, said: &Said) {
+        let line = &*run.line;
+        if self.listens && !run.in_hundred(5) && said.centre < line.centre_count() {
+            self.unit.hears(line, said.centre, &said.message);
+            self.driver
+                .hears(line, said.centre, &said.message, run.now.get());
         }
     }
-}
-
-/// The sections of the line.
-pub fn sections_of(alloc: Global, line: &Line) -> Done<Vec<Section>> {
-    let mut sections = Vec::new(alloc);
-    for s in 0..line.section_count() {
-        let Some(section) = line.section(s) else {
-            return Err(ABSENT);
-        };
-        sections.push(section)?;
-    }
-    Ok(sections)
 }
 
 /// A drawn number of the trains of the line, as far as there is a place for them. The last engine is not of the line.
-pub fn trains_on(
-    alloc: Global,
-    line: &Line,
-    sections: &[Section],
-    draws: &mut Pcg32,
-) -> Done<Vec<Train>> {
-    let most = below(draws, usize::from(line.train_count())).saturating_add(1);
-    let places = placed_on(alloc, line, sections, u8::try_from(most).unwrap_or(1))?;
-    let mut trains = Vec::new(alloc);
+pub fn trains_on(run: &Run) -> Vec<Train> {
+    let mut trains = Vec::new(run.alloc);
+    let count = run
+        .below(usize::from(run.line.train_count()))
+        .saturating_add(1);
+    let places = placed_on(run.alloc, &run.line, &run.sections, count as u8);
+    let places = places.unwrap_or(Vec::new(run.alloc));
     for place in &places {
-        trains.push(Train::new(alloc, line, *place, true)?)?;
+        add_train(run, &mut trains, place, true);
     }
     if let Some(first) = places.first() {
         let mut stranger = *first;
         stranger.nid_engine = STRANGER;
-        trains.push(Train::new(alloc, line, stranger, false)?)?;
+        add_train(run, &mut trains, &stranger, false);
     }
-    Ok(trains)
+    trains
+}
+
+fn add_train(run: &Run, trains: &mut Vec<Train>, place: &Place, listens: bool) {
+    match Train::new(run, place, listens) {
+        Some(train) => run.add(trains, train),
+        None => run.note(MEMORY),
+    }
 }

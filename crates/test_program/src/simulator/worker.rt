@@ -3,7 +3,6 @@
 use crate::simulator::journal::Reach;
 use rbc_centre::Saying;
 use rbc_node::Share;
-use serve_workers::writing::Release;
 
 /// A thread that commits events: its receipts, and how far it has handed the answers in.
 #[derive(Drop)]
@@ -42,12 +41,11 @@ impl Worker {
         self.handed >= self.share.receipts().len()
     }
 
-    /// Hands in the next part of an answer, if that may leave. An answer with a reply to the interlocking waits for its
-    /// event here.
+    /// Hands in the next part of an answer, if that may leave. An answer to the interlocking waits for its event here.
     pub fn hand_in(&mut self, reach: &Reach) -> Option<Part> {
         let outcome = &self.share.receipts().get(self.handed)?.outcome;
         let stamp = outcome.stamp;
-        if self.is_held || waits(reach, stamp, outcome.words().is_empty()) {
+        if self.is_held || reach.holds_up(stamp, outcome.word.is_some()) {
             return None;
         }
         match outcome.sayings.as_slice().get(self.said) {
@@ -62,13 +60,4 @@ impl Worker {
             }
         }
     }
-}
-
-// Whether an answer with this stamp may not be handed in yet. It waits for its event if it has a reply to the
-// interlocking, or if the journal can't be written.
-fn waits(reach: &Reach, stamp: u32, has_no_word: bool) -> bool {
-    if reach.is_closed || has_no_word && !reach.is_stuck {
-        return false;
-    }
-    reach.kept.stamp() < reach.awaited(stamp)
 }
