@@ -5,10 +5,11 @@
 //! difference, and then the number of cases that passed. `nodes` plays only the start over two nodes. `simulate FIRST
 //! COUNT` plays the runs of COUNT seeds from FIRST on, and prints their number. At a fault it prints the seed and the
 //! reason, and ends with status 1. `codec TURNS` prints the messages a second of the codec. `answers LINE SCRIPT`
-//! prints the answers of a line's centres to a script of events. `time LINE SCRIPT TURNS` plays the script this many times, and prints the events a second and the bytes of one turn's messages to trains. `commits LINE SCRIPT
-//! TURNS` does the same with commits to the logs of the centres. `lines LINE SCRIPT TURNS` makes the lines of their
-//! journals, and prints the lines a second and the bytes of one turn. `merge LINE ENTRIES` merges logs with this many
-//! entries, one log for each centre of a line. It prints the count of merged entries, and the nanoseconds for each.
+//! prints the answers of a line's centres to a script of events. `time LINE SCRIPT TURNS` plays the script this many
+//! times, and prints the events a second and the bytes of one turn's messages to trains. `commits LINE SCRIPT TURNS`
+//! does the same with commits to the logs of the centres. `lines LINE SCRIPT TURNS` makes the lines of their journals,
+//! and prints the lines a second and the bytes of one turn. `merge LINE ENTRIES` merges logs with this many entries,
+//! one log for each centre of a line. It prints the count of merged entries, and the nanoseconds for each.
 //!
 //! Expected values come from the standard or from the written rules, never from the program's own output.
 #![tactic(auto)]

@@ -36,7 +36,7 @@ impl Link {
     /// It gives a drawn frame before the next: one that it has given, or the one after the next.
     pub fn stray(&mut self, run: &Run) {
         let next = self.order.number();
-        let number = run.below(next as usize) as u32;
+        let number = run.some_below(next);
         let early = next.saturating_add(1);
         self.stray = Some(if number == 0 { early } else { number });
     }

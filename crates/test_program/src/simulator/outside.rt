@@ -12,7 +12,7 @@ impl Simulation {
     pub fn speak(&mut self, run: &Run) {
         let number = run.below(self.trains.len());
         let first = run.below(run.platters.len());
-        run.pass(run.below(400) as u32);
+        run.pass(run.some_below(400));
         if let Some(train) = self.trains.get_mut(number) {
             train.run(run);
         }

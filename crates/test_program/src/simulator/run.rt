@@ -73,6 +73,11 @@ impl Run {
         (mixed >> 32) as usize % bound
     }
 
+    /// The same, of 32 bits.
+    pub fn some_below(&self, bound: u32) -> u32 {
+        u32::try_from(self.below(bound as usize)).unwrap_or(0)
+    }
+
     /// True with this chance, in per cent.
     pub fn in_hundred(&self, chance: usize) -> bool {
         self.below(100) < chance

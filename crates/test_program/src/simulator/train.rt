@@ -63,7 +63,7 @@ impl Train {
         let limit = self.unit.may_reach(self.ends.front).unwrap_or(0);
         let limit = limit.min(u64::from(MOST_FRONT)) as u32;
         let most = limit.min(self.driver.goal).saturating_sub(MARGIN);
-        let far = self.ends.front.saturating_add(run.below(2_000) as u32);
+        let far = self.ends.front.saturating_add(run.some_below(2_000));
         let front = far.min(most);
         if front > self.ends.front && front <= MOST_FRONT {
             self.ends.front = front;
@@ -146,7 +146,7 @@ pub fn trains_on(run: &Run) -> Vec<Train> {
     let count = run
         .below(usize::from(run.line.train_count()))
         .saturating_add(1);
-    let places = placed_on(run.alloc, &run.line, &run.sections, count as u8);
+    let places = placed_on(run.alloc, &run.line, &run.sections, u8::try_from(count).unwrap_or(1));
     let places = places.unwrap_or(Vec::new(run.alloc));
     for place in &places {
         add_train(run, &mut trains, place, true);
