@@ -3,6 +3,7 @@
 use crate::simulator::journal::last_stamp;
 use crate::simulator::judge::add_sections;
 use crate::simulator::program::Program;
+use crate::simulator::resumed::stamp_of;
 use crate::simulator::run::{MEMORY, Run};
 use crate::simulator::site::Site;
 use rbc_centre::{Event, Outcome};
@@ -193,14 +194,11 @@ impl Site {
         let (first, event) = event_of(printed);
         let desk = self.desks.get_mut(number)?;
         let answer = desk.share.commit(&mut self.own.log, event);
-        let stamp = match &answer {
-            Ok(outcome) => self.journal.reach.awaited(outcome.stamp),
-            Err(_) => 0,
-        };
+        let stamp = self.journal.reach.awaited(stamp_of(&answer));
         let mut stamps = Vec::new(run.alloc);
         run.add(&mut stamps, stamp);
         Some(Answer {
-            text: text_of(run, printed, &answer),
+            text: text_of(run, self.own.number, printed, &answer),
             first,
             stamps,
             is_show: false,
@@ -208,23 +206,17 @@ impl Site {
     }
 }
 
-/// An event of a journal and its answer, as the interlocking gets it.
-pub fn text_of(run: &Run, event: &WorldEvent, answer: &Result<Outcome, ShareFault>) -> Vec<u8> {
+/// The print of an event at a centre, with its answer.
+pub fn text_of(
+    run: &Run,
+    centre: u8,
+    event: &WorldEvent,
+    answer: &Result<Outcome, ShareFault>,
+) -> Vec<u8> {
     let mut text = Vec::new(run.alloc);
-    let centre = centre_of(event);
     let is_done = print_commit(run.alloc, &mut text, &run.line, centre, event, answer).is_ok();
     run.must(is_done, MEMORY);
     text
-}
-
-// The centre at which an event happens.
-fn centre_of(event: &WorldEvent) -> u8 {
-    match event {
-        WorldEvent::Train { centre, .. } => *centre,
-        WorldEvent::Set { centre, .. } => *centre,
-        WorldEvent::Unset { centre, .. } => *centre,
-        WorldEvent::Deliver { to, .. } => *to,
-    }
 }
 
 // The number of the centre of an event of the interlocking, and the event as the centre takes it.

@@ -103,7 +103,7 @@ impl Judge {
     fn take(&mut self, run: &Run, entry: &Entry) {
         let at = usize::from(entry.centre());
         let answer = commit_entry(run, &mut self.centres, entry);
-        let text = text_of(run, &entry.event, &answer);
+        let text = text_of(run, entry.centre(), &entry.event, &answer);
         self.promise.holds_after(run, &text);
         self.expect(run, entry, &answer);
         if let WorldEvent::Set { .. } | WorldEvent::Unset { .. } = &entry.event {

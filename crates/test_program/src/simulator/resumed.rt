@@ -90,7 +90,7 @@ pub fn commit_entry(run: &Run, all: &mut [Resumed], entry: &Entry) -> Result<Out
         && let Some(centre) = all.get_mut(usize::from(entry.centre()))
     {
         let answer = centre.share.commit(&mut centre.log, event);
-        let is_same = answer.as_ref().is_ok_and(|it| it.stamp == entry.stamp);
+        let is_same = stamp_of(&answer) == entry.stamp;
         run.must(is_same, "a journal has an event that does not fit");
         return answer;
     }
@@ -98,10 +98,21 @@ pub fn commit_entry(run: &Run, all: &mut [Resumed], entry: &Entry) -> Result<Out
     Err(ShareFault::Stray)
 }
 
+/// The stamp of an answer; 0 if the commit was refused.
+pub fn stamp_of(answer: &Result<Outcome, ShareFault>) -> u32 {
+    match answer {
+        Ok(outcome) => outcome.stamp,
+        Err(_) => 0,
+    }
+}
+
 // The event in the form in which its centre takes it. `None` if its bytes are not a message, or its frame was not sent.
 fn event_of(run: &Run, all: &[Resumed], event: &WorldEvent) -> Option<Event> {
     match event {
-        WorldEvent::Train { bytes, .. } => decode_train(run.alloc, bytes).ok().map(Event::Train),
+        WorldEvent::Train { bytes, .. } => match decode_train(run.alloc, bytes) {
+            Ok(message) => Some(Event::Train(message)),
+            Err(_) => None,
+        },
         WorldEvent::Set { section, .. } => Some(Event::Set(*section)),
         WorldEvent::Unset { section, .. } => Some(Event::Unset(*section)),
         WorldEvent::Deliver { from, to, number } => {

@@ -32,7 +32,7 @@ pub struct Train {
 }
 
 /// Which message a train sends.
-#[derive(Clone, Copy, PartialEq, Eq)]
+#[derive(Clone, Copy)]
 pub enum Manner {
     /// The one that is due.
     Due,
@@ -85,23 +85,19 @@ impl Train {
             return false;
         };
         let stamp = run.now.get().max(self.driver.clock.saturating_add(1));
-        match self.speech(run, centre, section.home, manner) {
-            Some(speech) => {
-                let is_still = matches!(speech, Speech::EndOfMission);
-                let position = position(run.line.nid_c(), *section, self.ends.front, is_still);
-                match message(run.alloc, stamp, self.nid_engine, speech, position) {
-                    Ok(message) => {
-                        let is_sent = self.say(run, centre, &message, manner);
-                        if is_sent {
-                            self.driver.has_sent(centre, speech, stamp);
-                        }
-                        is_sent
-                    }
-                    Err(_) => false,
-                }
-            }
-            None => manner == Manner::DueOrLast && !self.last.is_empty(),
+        let Some(speech) = self.speech(run, centre, section.home, manner) else {
+            return matches!(manner, Manner::DueOrLast) && !self.last.is_empty();
+        };
+        let is_still = matches!(speech, Speech::EndOfMission);
+        let position = position(run.line.nid_c(), *section, self.ends.front, is_still);
+        let Ok(message) = message(run.alloc, stamp, self.nid_engine, speech, position) else {
+            return false;
+        };
+        let is_sent = self.say(run, centre, &message, manner);
+        if is_sent {
+            self.driver.has_sent(centre, speech, stamp);
         }
+        is_sent
     }
 
     fn speech(&mut self, run: &Run, centre: u8, home: u8, manner: Manner) -> Option<Speech> {
@@ -109,7 +105,7 @@ impl Train {
         let stamp = now.max(self.driver.clock.saturating_add(1));
         self.driver.engage(home, now);
         self.driver.reopen(centre, now);
-        if manner == Manner::Initiation {
+        if matches!(manner, Manner::Initiation) {
             return Some(Speech::Next(NextMessage::InitiationOfSession));
         }
         self.driver
@@ -119,7 +115,7 @@ impl Train {
     // Its unit may send the message. An initiation is sent though it may not.
     fn say(&mut self, run: &Run, centre: u8, message: &TrainMsg, manner: Manner) -> bool {
         let said = self.unit.say(&run.line, centre, message, self.ends);
-        if said.is_err() && manner != Manner::Initiation {
+        if said.is_err() && !matches!(manner, Manner::Initiation) {
             return false;
         }
         match encode_train(run.alloc, message) {
