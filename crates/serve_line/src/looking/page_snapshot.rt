@@ -1,9 +1,10 @@
 ghost use Rattle.std.specs.Prelude.{◌<◌, ◌==◌, ◌≡◌, ◌≢◌, ℕ, [], IfOk, IfSome, length, map};
-ghost use Rattle.std.specs.Prelude.{not, replicate, slice_get, slice_set};
+ghost use Rattle.std.specs.Prelude.{false, not, replicate, slice_get, slice_set, string_bytes};
 ghost use Rattle.serve_line.specs.Marks.{TakesMarks, with_silent};
 ghost use Rattle.serve_line.specs.Snapshots.{IsViewIn};
 ghost use Rattle.serve_line.specs.Directions.{directions_of};
 ghost use Rattle.serve_line.specs.Pages.{unused_link};
+ghost use Rattle.serve_line.specs.declared.status.snapshot.Snapshot.{Snapshot as View};
 
 use crate::directions::directions_of;
 use crate::journaling::Journal;
@@ -45,7 +46,13 @@ pub struct Found {
 
 impl PageSnapshot {
     /// A view before the first look. The centres listen at these ports.
-    pub fn new(alloc: Global, line: &Line, ports: Vec<u16>) -> Result<PageSnapshot, AllocError> {
+    pub fn new(alloc: Global, line: &Line, ports: Vec<u16>) -> Result<PageSnapshot, AllocError>
+        ensures events { IfOk result (λ snapshot. snapshot.now.events ≡ 0) }
+        ensures sections { IfOk result (λ snapshot. snapshot.now.sections.items
+            ≡ replicate (length line.now.sections) UNSEEN) }
+        ensures silences { IfOk result (λ snapshot. snapshot.silences.items
+            ≡ replicate (length line.now.centres) (record { read = 0; counts = replicate 10 0 })) }
+    {
         Ok(PageSnapshot {
             layout: layout_of(alloc, line, ports)?,
             now: nothing_of(alloc, line)?,
@@ -63,7 +70,13 @@ impl PageSnapshot {
         alloc: Global,
         line: &Line,
         nodes: &[Node],
-    ) -> Result<Found, Fault<'static>> {
+    ) -> Result<Found, Fault<'static>>
+        ensures shown { self.new.now ≡ self.old.now }
+        ensures sections { IfOk result (λ found. (view : View) × ((s : ℕ) → s < length line.now.sections
+            → IfSome (slice_get found.now.sections.items s) (IsViewIn line.now view s))) }
+        ensures last { IfOk result (λ found. map (λ e. string_bytes e.words) found.now.last.items
+            ≡ map (λ t. string_bytes t.words) self.new.news.told.items) }
+    {
         let mut silent = Vec::new(alloc);
         for (node, silences) in nodes.iter().zip(self.silences.iter_mut()) {
             silences.catch_up(rt, node);
@@ -103,7 +116,9 @@ impl PageSnapshot {
 
     /// Adds the times of the last events, as the journals have them, and returns whether one has changed. The view is
     /// that of the last look.
-    pub fn add_times<R: Wait>(&mut self, rt: &R, journals: &[Journal]) -> bool {
+    pub fn add_times<R: Wait>(&mut self, rt: &R, journals: &[Journal]) -> bool
+        ensures { result ≡ false → self.new.now.last.items ≡ self.old.now.last.items }
+    {
         self.news.add_times(rt, journals, &mut self.now.last)
     }
 }
