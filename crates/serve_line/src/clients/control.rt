@@ -128,6 +128,7 @@ fn rests_after(rests: u32, came: &Came) -> u32
 }
 
 // Answers the line that was read, if there is one.
+#[tactic(auto, using(crate::proofs::AnsweringLemmas::next_by))]
 fn after_read<R: Wait + Clock, N: Notes>(
     rt: &R,
     client: &Client<'_, '_, N>,

@@ -4,7 +4,7 @@ ghost use Rattle.serve_line.specs.Marks.{TakesMarks, with_silent};
 ghost use Rattle.serve_line.specs.Snapshots.{IsViewIn};
 ghost use Rattle.serve_line.specs.Directions.{directions_of};
 ghost use Rattle.serve_line.specs.Pages.{unused_link};
-ghost use Rattle.serve_line.specs.declared.status.snapshot.Snapshot.{Snapshot as View};
+ghost use Rattle.serve_line.specs.declared.status.snapshot.Snapshot.{Snapshot as Shown};
 
 use crate::directions::directions_of;
 use crate::journaling::Journal;
@@ -44,6 +44,14 @@ pub struct Found {
     silent: Vec<[u64; 10]>,
 }
 
+// The line as the centres show it that were read.
+#[derive(Drop)]
+struct View {
+    alloc: Global,
+    now: LineNow,
+    snapshot: Snapshot,
+}
+
 impl PageSnapshot {
     /// A view before the first look. The centres listen at these ports.
     pub fn new(alloc: Global, line: &Line, ports: Vec<u16>) -> Result<PageSnapshot, AllocError>
@@ -72,30 +80,41 @@ impl PageSnapshot {
         nodes: &[Node],
     ) -> Result<Found, Fault<'static>>
         ensures shown { self.new.now ≡ self.old.now }
-        ensures sections { IfOk result (λ found. (view : View) × ((s : ℕ) → s < length line.now.sections
-            → IfSome (slice_get found.now.sections.items s) (IsViewIn line.now view s))) }
+        ensures sections { IfOk result (λ found. (shown : Shown) × ((s : ℕ) → s < length line.now.sections
+            → IfSome (slice_get found.now.sections.items s) (IsViewIn line.now shown s))) }
         ensures last { IfOk result (λ found. map (λ e. string_bytes e.words) found.now.last.items
             ≡ map (λ t. string_bytes t.words) self.new.news.told.items) }
     {
-        let mut silent = Vec::new(alloc);
-        for (node, silences) in nodes.iter().zip(self.silences.iter_mut()) {
-            silences.catch_up(rt, node);
-            silent.push(silences.counts())?;
-        }
-        let mut now = nothing_of(alloc, line)?;
-        let mut snapshot = Snapshot::new(alloc, line)?;
+        let silent = silent_in(rt, alloc, nodes, &mut self.silences)?;
+        let mut view = View::new(alloc, line)?;
         for node in nodes {
-            let look = node.look(rt);
-            let log = look.log();
-            see_centre(line, log, &mut now)?;
-            snapshot.add(line, log);
-            self.sent.read_on(line, log.core());
-            self.news.read_on(alloc, log)?;
+            self.read(rt, line, node, &mut view)?;
         }
+        let View {
+            mut now, snapshot, ..
+        } = view;
         self.sent.add_handovers(&mut now);
         see_sections(line, &snapshot, &mut now.sections);
         now.last = self.news.tell(alloc, line)?;
         Ok(Found { now, silent })
+    }
+
+    // Reads a centre, and adds it to the view.
+    fn read<R: Wait>(
+        &mut self,
+        rt: &R,
+        line: &Line,
+        node: &Node,
+        view: &mut View,
+    ) -> Result<(), AllocError>
+        ensures { self.new.now ≡ self.old.now }
+    {
+        let look = node.look(rt);
+        let log = look.log();
+        see_centre(line, log, &mut view.now)?;
+        view.snapshot.add(line, log);
+        self.sent.read_on(line, log.core());
+        self.news.read_on(view.alloc, log)
     }
 
     /// Shows the result of a look, and returns whether its events are others. The marks of the endpoints and the true
@@ -121,6 +140,36 @@ impl PageSnapshot {
     {
         self.news.add_times(rt, journals, &mut self.now.last)
     }
+}
+
+impl View {
+    // The line before the first centre is read.
+    fn new(alloc: Global, line: &Line) -> Result<View, AllocError>
+        ensures { IfOk result (λ view. view.now.events ≡ 0) }
+    {
+        let now = nothing_of(alloc, line)?;
+        let snapshot = Snapshot::new(alloc, line)?;
+        Ok(View {
+            alloc,
+            now,
+            snapshot,
+        })
+    }
+}
+
+// For each centre its silent messages, by their reasons. It reads the new entries of the logs first.
+fn silent_in<R: Wait>(
+    rt: &R,
+    alloc: Global,
+    nodes: &[Node],
+    silences: &mut [Silences],
+) -> Result<Vec<[u64; 10]>, AllocError> {
+    let mut silent = Vec::new(alloc);
+    for (node, silences) in nodes.iter().zip(silences.iter_mut()) {
+        silences.catch_up(rt, node);
+        silent.push(silences.counts())?;
+    }
+    Ok(silent)
 }
 
 // Shows each section as the centres show it.

@@ -63,7 +63,7 @@ impl Watch {
         }
     }
 
-    /// Checks the queue of the centre of this name.
+    /// Checks the queue of the centre of this name. Only the thread of the centre's endpoint calls it.
     pub fn look<T: Clock, N: Notes>(&mut self, clock: &T, queue: &Queue, notes: &N, name: &str)
         ensures { (entered left : ℕ) × (now : Option Moment) × (movement : Move)
             × IsMovement self.old.moves entered left now movement self.new.moves }
