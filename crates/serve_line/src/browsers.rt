@@ -1,8 +1,6 @@
-ghost use Rattle.std.specs.Prelude.{◌<◌, ◌≡◌, ℕ, false, IfOk, IfSome, length, map, slice_get};
+ghost use Rattle.std.specs.Prelude.{◌≡◌, false, IfOk, IfSome, length, map};
 ghost use Rattle.serve_line.specs.Addresses.{port_number};
 ghost use Rattle.serve_line.specs.Browsers.{IsPlaceOf};
-ghost use Rattle.serve_line.specs.Snapshots.{IsViewIn};
-ghost use Rattle.serve_line.specs.declared.status.snapshot.Snapshot.{Snapshot};
 
 use crate::looking::PageSnapshot;
 use crate::moments::milliseconds_of;
@@ -70,8 +68,11 @@ impl PageEndpoint {
         ensures port { IfOk result (λ endpoint. (endpoint.listener ≡ port.listening.listener)
             × (endpoint.address ≡ port.listening.address) × (endpoint.true_places ≡ port.true_places)) }
     {
+        let (line, nodes) = centres;
         let places = free_places(alloc)?;
-        let page_snapshot = first_view(rt, alloc, centres, ports_of(alloc, endpoints)?)?;
+        let mut page_snapshot = PageSnapshot::new(alloc, line, ports_of(alloc, endpoints)?)?;
+        let found = page_snapshot.look(rt, alloc, line, nodes)?;
+        page_snapshot.show(found);
         let version = first_version(rt);
         Ok(PageEndpoint {
             listener: port.listening.listener,
@@ -129,23 +130,6 @@ impl PageEndpoint {
         }
         None
     }
-}
-
-// The first view of the centres of a line, which listen at these ports.
-fn first_view<R: Wait>(
-    rt: &R,
-    alloc: Global,
-    centres: (&Line, &[Node]),
-    ports: Vec<u16>,
-) -> Result<PageSnapshot, Fault<'static>>
-    ensures { IfOk result (λ view. (shown : Snapshot) × ((s : ℕ) → s < length centres.entry.0.now.sections
-        → IfSome (slice_get view.now.sections.items s) (IsViewIn centres.entry.0.now shown s))) }
-{
-    let (line, nodes) = centres;
-    let mut view = PageSnapshot::new(alloc, line, ports)?;
-    let found = view.look(rt, alloc, line, nodes)?;
-    view.show(found);
-    Ok(view)
 }
 
 // The places of a page endpoint that no browser has asked yet.

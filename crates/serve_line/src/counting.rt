@@ -1,8 +1,6 @@
 //! The counts of running centres, for the metrics.
 
-ghost use Rattle.std.specs.Prelude.{◌≡◌, ◌≤◌, ℕ, length, option_map, slice_get};
-ghost use Rattle.rbc_log.specs.Log.{LogValue};
-ghost use Rattle.rbc_node.specs.Node.{centre_of, IsLogOf};
+ghost use Rattle.std.specs.Prelude.{◌≡◌, ℕ, option_map, slice_get};
 ghost use Rattle.serve_line.specs.Marks.{silent_of};
 
 use crate::journaling::Journal;
@@ -47,9 +45,7 @@ fn counts_with<R: Wait>(
     journal: &Journal,
     counts: CentreCounts,
 ) -> CentreCounts
-    ensures silent { silent_of result ≡ silent_of counts }
-    ensures unwritten { (log : LogValue) × IsLogOf (centre_of node.now) log
-        × (result.unwritten ≤ length log.entries) }
+    ensures { silent_of result ≡ silent_of counts }
 {
     let written = journal.written(rt);
     let taken = node.look(rt).log().entries().len();

@@ -1,6 +1,6 @@
 //! The stages of a running line: its nodes go on from the journals, its threads run, and its logs are printed.
 
-ghost use Rattle.std.specs.Prelude.{◌≡◌, IfOk, is_some, List, map, OnOk, true, vec_len, ℕ};
+ghost use Rattle.std.specs.Prelude.{◌≡◌, IfOk, List, map, OnOk, true, vec_len, ℕ};
 ghost use Rattle.rbc_node.specs.Receipts.{ShareValue};
 ghost use Rattle.serve_line.specs.Journaling.Resuming.{AreResumed, first_share};
 ghost use Rattle.serve_line.specs.Lists.{Continues};
@@ -12,7 +12,7 @@ use crate::journals::{Record, resume_noted};
 use crate::printing::print_noted;
 use crate::running::{run_beside, shares_of};
 use crate::state::{
-    DirectedLink, Endpoint, Endpoints, PagePort, ServeOptions, Server, State, connections_of, endpoints_of,
+    DirectedLink, Endpoint, Endpoints, ServeOptions, Server, State, connections_of, endpoints_of,
     journals_of, links_of, nodes_of, sinks_of, wakers_of,
 };
 use crate::status::MentionOrder;
@@ -27,7 +27,6 @@ use std::io::Write;
 use std::sync::{Mutex, Wait};
 use std::thread::{Parker, Threads};
 use std::time::Clock;
-use text_script::status::Fault;
 
 /// The line with its options, and the receiver of its notes.
 #[derive(Drop)]
@@ -129,49 +128,29 @@ impl<R: Threads + Wait + Sync + Clock, N: Notes + Sync> Setting<'_, R, N> {
         } = begun;
         let (listening, socket, page) = endpoints.all();
         let endpoints = endpoints_of(self.alloc, self.line, &nodes, listening, socket)?;
+        let page = match page {
+            Some(port) => Some(PageEndpoint::new(
+                self.rt,
+                self.alloc,
+                (self.line, &nodes),
+                &endpoints,
+                port,
+            )?),
+            None => None,
+        };
         let links = links_of(self.alloc, self.line, &nodes)?;
         let parts = Parts {
             nodes: &nodes,
             endpoints: &endpoints,
             links: &links,
-            page: None,
+            page: page.as_ref(),
         };
-        let is_whole = self.run_with_page(parts, page, files, times)?;
+        let is_whole = self.run_parts(parts, files, times)?;
         Ok(Ended {
             receipts: shares_of(receipts, endpoints, links)?,
             nodes,
             is_whole,
         })
-    }
-
-    // Runs all threads, that of the page too if there is a port for it. The result is whether the journals have all
-    // committed events.
-    fn run_with_page<F: DurableFile + Drop + Send>(
-        &self,
-        parts: Parts<'_>,
-        port: Option<PagePort>,
-        files: Vec<JournalFile<F>>,
-        times: Vec<WriteTimes>,
-    ) -> Result<bool, ServeFault> {
-        let page = self.page_of(parts, port)?;
-        let page = page.as_ref();
-        Ok(self.run_parts(Parts { page, ..parts }, files, times)?)
-    }
-
-    // The endpoint of the page, if there is a port for it.
-    fn page_of(
-        &self,
-        parts: Parts<'_>,
-        port: Option<PagePort>,
-    ) -> Result<Option<PageEndpoint>, Fault<'static>>
-        ensures { IfOk result (λ page. is_some page ≡ is_some port) }
-    {
-        let Some(port) = port else {
-            return Ok(None);
-        };
-        let centres = (self.line, parts.nodes);
-        let page = PageEndpoint::new(self.rt, self.alloc, centres, parts.endpoints, port)?;
-        Ok(Some(page))
     }
 
     // Runs all threads. The result is whether the journals have all committed events.
