@@ -91,7 +91,9 @@ impl PageSnapshot {
             self.read(rt, line, node, &mut view)?;
         }
         let View {
-            mut now, snapshot, ..
+            mut now,
+            snapshot,
+            ..
         } = view;
         self.sent.add_handovers(&mut now);
         see_sections(line, &snapshot, &mut now.sections);
