@@ -21,6 +21,7 @@ pub mod Pages
 pub mod Peers
 pub mod Prints
 pub mod Refusals
+pub mod Requests
 pub mod Rooms
 pub mod Rows
 pub mod Sendings

@@ -1,6 +1,6 @@
 -- The part of the page's view that a look at the centres does not change.
 use Rattle.std.specs.Option.{option_map_or}
-use Rattle.std.specs.Prelude.{◌≡◌, List, Option, option_map, slice_get, ℕ}
+use Rattle.std.specs.Prelude.{◌≡◌, Bool, false, List, Option, option_map, slice_get, ℕ}
 use Rattle.text_page.specs.declared.view.CentreCounts.{CentreCounts}
 use Rattle.text_page.specs.declared.view.CentreNow.{CentreNow}
 use Rattle.text_page.specs.declared.view.LineNow.{LineNow}
@@ -9,10 +9,28 @@ use Rattle.text_page.specs.declared.view.LineNow.{LineNow}
 abbrev pub with_marks : CentreNow → CentreNow → CentreNow
 with_marks old now = record now { taken = old.taken; seats = old.seats; is_stuck = old.is_stuck }
 
+-- a centre without the marks of its endpoint
+abbrev pub unmarked : CentreNow → CentreNow
+unmarked centre = record centre { taken = 0; seats = 0; is_stuck = false }
+
+-- the number of connections of a centre, and whether its journal can't be written
+abbrev pub marks_of : CentreNow → ℕ × Bool
+marks_of centre = (centre.taken, centre.is_stuck)
+
+-- The views differ at most in the marks of the endpoints, and in whether connections are accepted.
+pub record DiffersInMarks (old new : LineNow) : Type 0 where
+  pub centres : (c : ℕ) → option_map unmarked (slice_get new.centres.items c)
+      ≡ option_map unmarked (slice_get old.centres.items c)
+  pub others : record new { is_stopped = old.is_stopped; centres = old.centres } ≡ old
+
 -- centre c with its marks in these earlier views, if it was in them
 abbrev pub marked : List CentreNow → ℕ → Option CentreNow → Option CentreNow
 marked before c now =
     option_map (λ centre. option_map_or (λ old. with_marks old centre) (slice_get before c) centre) now
+
+-- the counts of the silent messages of a centre
+abbrev pub silent_of : CentreCounts → List ℕ
+silent_of counts = counts.silent
 
 -- the counts of centre c with these of its silent messages, if there are any
 abbrev pub with_silent : List (List ℕ) → ℕ → Option CentreCounts → Option CentreCounts

@@ -1,11 +1,16 @@
 -- The peers at the endpoints.
-use Rattle.std.specs.Prelude.{codes, List, None, Option, option_map, slice_get, Some, ℕ}
+use Rattle.std.specs.Prelude.{Bool, codes, false, List, None, Option, option_map, slice_get, Some, true, ℕ}
 use Rattle.rbc_spec.specs.Line.{Line}
 use Rattle.serve_line.specs.declared.state.peer.Peer.{Peer}
 use Rattle.serve_line.specs.declared.state.peer.Peer.TheVariants.{Interlocking, Trains}
 use Rattle.serve_notes.specs.declared.about.About.{About}
 use Rattle.serve_notes.specs.declared.kinds.Kind.{Kind}
 use Rattle.text_script.specs.Print.Rows.{name_at}
+
+-- the peer is the interlocking
+abbrev pub is_interlocking : Peer → Bool
+is_interlocking (Trains c) = false
+is_interlocking Interlocking = true
 
 -- the item of the centre at whose endpoint the peer is; there is none for the interlocking
 abbrev pub at_peer : {X : Type 0} → List X → Peer → Option X

@@ -1,6 +1,6 @@
 -- The print of the centres' logs at the end.
 use Rattle.std.specs.Io.KnownBytes.{Appends}
-use Rattle.std.specs.Prelude.{◌∷◌, List, Ok, Option, option_map, ℕ}
+use Rattle.std.specs.Prelude.{◌+◌, ◌-◌, ◌^◌, ◌∷◌, length, List, min, Ok, Option, option_map, ℕ}
 use Rattle.rbc_log.specs.Log.{LogValue}
 use Rattle.rbc_node.specs.Gather.{Gathers}
 use Rattle.rbc_node.specs.Receipts.{ShareValue}
@@ -15,6 +15,10 @@ AddsPrint line logs before after = (text : List ℕ) × IsPrintOfLogs line logs 
 abbrev pub AddsGathered : ℕ → List ShareValue → Line → Option (List ℕ) → Option (List ℕ) → Type 0
 AddsGathered nodes shares line before after =
     (logs : List LogValue) × Gathers nodes shares (Ok logs) × AddsPrint line logs before after
+
+-- the number of entries with those of one log more
+abbrev pub with_entries : ℕ → LogValue → ℕ
+with_entries count log = min (count + length log.entries) (2 ^ 64 - 1)
 
 -- the bytes of a writer, after the name that separates it from other writers
 abbrev pub named : ℕ → Option (List ℕ) → Option (List ℕ)

@@ -1,13 +1,16 @@
 -- The line as its centres showed it, each at its own moment.
 use Rattle.std.specs.List.{flat_map, range_with_len}
 use Rattle.std.specs.Option.{option_map_or}
-use Rattle.std.specs.Prelude.{[], ◌++◌, ◌<◌, ◌≡◌, Bool, codes, false, length, List, None, Option}
-use Rattle.std.specs.Prelude.{option_and_then, option_map, Some, true}
+use Rattle.std.specs.Prelude.{[], ◌++◌, ◌<◌, ◌∷◌, ◌≡◌, Bool, codes, false, length, List, None, Option}
+use Rattle.std.specs.Prelude.{option_and_then, option_map, replicate, Some, true}
 use Rattle.std.specs.Prelude.{slice_get, unwrap_or, ℕ}
 use Rattle.rbc_book.specs.declared.page.Entry.TheVariants as entry
 use Rattle.rbc_book.specs.declared.page.Page.{Page}
 use Rattle.rbc_book.specs.Entries.{entry_of}
 use Rattle.rbc_line.specs.SectionRuns.{run_of}
+use Rattle.rbc_log.specs.Log.{LogValue}
+use Rattle.rbc_node.specs.declared.node.Node.{Node}
+use Rattle.rbc_node.specs.Node.{centre_of, IsLogOf}
 use Rattle.rbc_spec.specs.Centre as spec
 use Rattle.rbc_spec.specs.Line.{is_home, Line, train_number}
 use Rattle.rbc_spec.specs.Maps.{has}
@@ -73,6 +76,24 @@ pub record HasCentre (line : Line) (k : Centre) (old new : Snapshot) : Type 0 wh
   pub missions : (i : ℕ) → i < length line.trains
       → HasMission line k i (slice_get old.missions.items i) (slice_get new.missions.items i)
 
+-- a look at a centre: at some log of it
+abbrev pub HasLooked : Line → Node → Snapshot → Snapshot → Type 0
+HasLooked line node old new = (log : LogValue) × IsLogOf (centre_of node) log × HasCentre line log.core old new
+
+-- looks at these centres, one after another
+abbrev pub HaveLooked : Line → List Node → Snapshot → Snapshot → Type 0
+HaveLooked line [] old new = new ≡ old
+HaveLooked line (node ∷ nodes) old new =
+    (next : Snapshot) × HasLooked line node old next × HaveLooked line nodes next new
+
+-- The line as these centres show it, each at its own moment. Before the first look each section is shut, and no train
+-- has a mission.
+pub record IsSeenAt (line : Line) (nodes : List Node) (seen : Snapshot) : Type 0 where
+  pub before : Snapshot
+  pub shut : before.pages.items ≡ replicate (length line.sections) (record { entry = entry.Shut; is_wished = false })
+  pub unserved : before.missions.items ≡ replicate (length line.trains) None
+  pub looks : HaveLooked line nodes before seen
+
 -- ## The print
 
 -- a section, as its home shows it
@@ -93,8 +114,8 @@ IsShown line v order text =
     × (text ≡ flat_map (section_row_in line v) (range_with_len 0 (length line.sections))
     ++ flat_map (train_row_in line v) trains)
 
--- the answer to `show`: the line, as the centres showed it
-abbrev pub IsShow : Line → List ℕ → Type 0
-IsShow line text =
-    (v : Snapshot) × (order : MentionOrder) × (rows : List ℕ) × IsShown line v order rows
+-- the answer to `show`: the line as these centres show it
+abbrev pub IsShow : Line → List Node → List ℕ → Type 0
+IsShow line nodes text =
+    (v : Snapshot) × (order : MentionOrder) × (rows : List ℕ) × IsSeenAt line nodes v × IsShown line v order rows
     × (text ≡ codes "> show\n" ++ rows)

@@ -28,3 +28,9 @@ abbrev pub IsMovement : LastMove → ℕ → ℕ → Option Instant → Movement
 IsMovement before entered left now movement after =
     (has_moved before entered left ≡ true → (movement ≡ Moves) × (after ≡ record { left = left; since = None }))
     × (has_moved before entered left ≡ false → HasNotMoved before now movement after)
+
+-- Whether a queue that moves so is long, and whether that is noted: when it becomes long.
+abbrev pub marks_of : Movement → Bool → Bool × Bool
+marks_of Moves was_long = (false, false)
+marks_of Waits was_long = (was_long, false)
+marks_of IsLong was_long = (true, not was_long)

@@ -24,3 +24,4 @@ mod session_end;
 mod sessions;
 
 pub use endpoint_loop::run_endpoint;
+pub(crate) use sending::write_some;

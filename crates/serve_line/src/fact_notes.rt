@@ -1,14 +1,15 @@
 //! Notes of the missions, of the handovers and of the sections that are given back, read off the centres' logs.
 
 ghost use Rattle.std.specs.List.{flat_map};
-ghost use Rattle.std.specs.Prelude.{[], ◌≡◌, ◌≤◌, drop, length, map, take};
+ghost use Rattle.std.specs.Option.{option_map_or};
+ghost use Rattle.std.specs.Prelude.{[], ◌<◌, ◌≡◌, ◌≤◌, ℕ, drop, length, map, slice_get, slice_index, take};
 ghost use Rattle.rbc_log.specs.Log.{LogValue};
 ghost use Rattle.rbc_node.specs.Node.{centre_of, IsLogOf};
 ghost use Rattle.text_script.specs.rbc_centre.Views.{word_of};
 ghost use Rattle.serve_line.specs.Facts as spec;
 ghost use Rattle.serve_line.specs.Facts.{Adds, fact_list, facts_of};
 
-use crate::journaling::next_of;
+use crate::journaling::{Journal, next_of};
 use crate::state::Server;
 use crate::status::{Fact, fact_of_event, fact_of_frame, fact_of_message, fact_of_word};
 use rbc_line::Line;
@@ -25,10 +26,7 @@ const MOST_CENTRES: usize = 8;
 /// Reads the new entries of the centres' logs once a second, and notes their facts. It ends when nothing more is
 /// committed and all is read. The events that journals had at the start are not noted.
 pub(crate) fn note_facts<R: Wait, N: Notes>(rt: &R, server: &Server<'_>, notes: &N) {
-    let mut read = [0usize; MOST_CENTRES];
-    for (count, journal) in read.iter_mut().zip(server.journals.iter()) {
-        *count = journal.begins();
-    }
+    let mut read = begins_of(server.journals);
     let mut facts = Facts {
         line: server.line,
         found: Vec::new(server.alloc),
@@ -43,6 +41,28 @@ pub(crate) fn note_facts<R: Wait, N: Notes>(rt: &R, server: &Server<'_>, notes: 
             break;
         }
         server.state.rest_until_done(rt);
+    }
+}
+
+// The numbers of events that the journals had at the start, by the centres' numbers.
+fn begins_of(journals: &[Journal]) -> [usize; MOST_CENTRES]
+    ensures { (c : ℕ) → c < 8
+        → slice_index result c ≡ option_map_or (λ journal. journal.begins) (slice_get journals.now c) 0 }
+{
+    let mut begins = [0usize; MOST_CENTRES];
+    for c in 0..MOST_CENTRES {
+        begins[c] = begins_at(journals, c);
+    }
+    begins
+}
+
+// The number of events that a centre's journal had at the start; 0 without a journal.
+fn begins_at(journals: &[Journal], centre: usize) -> usize
+    ensures { result ≡ option_map_or (λ journal. journal.begins) (slice_get journals.now centre) 0 }
+{
+    match journals.get(centre) {
+        Some(journal) => journal.begins(),
+        None => 0,
     }
 }
 

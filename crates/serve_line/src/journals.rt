@@ -1,4 +1,4 @@
-ghost use Rattle.std.specs.Prelude.{◌≡◌, [], IfOk, map};
+ghost use Rattle.std.specs.Prelude.{◌≡◌, [], IfOk, IfSome, map, slice_get, Some};
 ghost use Rattle.serve_line.specs.Journaling.Resuming.{AreResumed, first_share};
 
 use crate::journaling::{JournalWriter, ResumeFault, keep_journal, resume};
@@ -80,11 +80,29 @@ pub(crate) fn keep<R: Wait + Clock, N: Notes, F: DurableFile + Drop>(
     centre: u8,
     mut file: JournalFile<F>,
 ) {
-    let at = centre as usize;
-    let (Some(node), Some(journal)) = (server.nodes.get(at), server.journals.get(at)) else {
+    let Some(writer) = writer_of(server, notes, centre) else {
         return;
     };
-    let writer = JournalWriter {
+    if !keep_journal(rt, &writer, &mut file) {
+        server.lose(rt, centre);
+    }
+}
+
+// The writer of a centre's journal, if the centre keeps one.
+fn writer_of<'a, N: Notes>(
+    server: &'a Server<'_>,
+    notes: &'a N,
+    centre: u8,
+) -> Option<JournalWriter<'a, N>>
+    ensures line { IfSome result (λ writer. writer.line.now ≡ server.entry.now.line.now) }
+    ensures node { IfSome result
+        (λ writer. slice_get server.entry.now.nodes.now centre ≡ Some writer.node.now) }
+    ensures journal { IfSome result
+        (λ writer. slice_get server.entry.now.journals.now centre ≡ Some writer.journal.now) }
+{
+    let node = server.nodes.get(centre as usize)?;
+    let journal = server.journal(centre)?;
+    Some(JournalWriter {
         alloc: server.alloc,
         line: server.line,
         name: name_of(server.line, centre),
@@ -93,8 +111,5 @@ pub(crate) fn keep<R: Wait + Clock, N: Notes, F: DurableFile + Drop>(
         notes,
         is_stopped: &server.state.is_stopped,
         is_over: &server.state.is_done,
-    };
-    if !keep_journal(rt, &writer, &mut file) {
-        server.lose(rt, centre);
-    }
+    })
 }

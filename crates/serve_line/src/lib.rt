@@ -18,6 +18,7 @@ pub mod looking;
 mod moments;
 mod pages;
 mod printing;
+mod requests;
 mod running;
 mod stamps;
 pub mod state;

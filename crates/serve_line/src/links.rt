@@ -1,3 +1,5 @@
+ghost use Rattle.std.specs.Prelude.{◌≡◌, option_and_then, option_map, slice_get};
+
 use crate::journaling::Journaled;
 use crate::state::{DirectedLink, Server};
 use rbc_board::{Carrier, QueueCarrier};
@@ -5,7 +7,7 @@ use serve_workers::{InOrder, pass_over, receive_frames, send_kept_frames};
 use std::alloc::AllocError;
 use std::sync::Wait;
 use std::thread;
-use std::thread::Threads;
+use std::thread::{Parker, Threads};
 
 /// Carries the frames of a link in a bounded queue until nothing new arrives. One worker sends the frames, another
 /// receives them.
@@ -57,6 +59,16 @@ fn carry_by<R: Threads + Wait + Sync, C: Carrier + Sync>(
     );
 }
 
+// The waker of a link.
+fn waker_of<'a>(server: &'a Server<'_>, link: &DirectedLink) -> Option<&'a Parker>
+    ensures { option_map (λ waker. waker.now) result
+        ≡ option_and_then (λ row. slice_get row.items link.now.to)
+        (slice_get server.entry.now.wakers.now link.now.from) }
+{
+    let wakers = server.wakers.get(link.from as usize)?;
+    wakers.get(link.to as usize)
+}
+
 // Sends the frames of a link until nothing new arrives.
 fn send<R: Wait, C: Carrier>(
     rt: &R,
@@ -67,13 +79,8 @@ fn send<R: Wait, C: Carrier>(
 )
     requires { C.is_of carrier.now seen }
 {
-    let (Some(node), Some(wakers)) = (
-        server.nodes.get(link.from as usize),
-        server.wakers.get(link.from as usize),
-    ) else {
-        return;
-    };
-    let Some(waker) = wakers.get(link.to as usize) else {
+    let (Some(node), Some(waker)) = (server.nodes.get(link.from as usize), waker_of(server, link))
+    else {
         return;
     };
     let signals = link.ends.of_sender(waker, &server.state.is_over);
@@ -100,13 +107,7 @@ fn receive<R: Wait, C: Carrier>(
 )
     requires { C.is_of carrier.now seen }
 {
-    let (Some(committer), Some(wakers)) = (
-        server.committer(link.to),
-        server.wakers.get(link.from as usize),
-    ) else {
-        return;
-    };
-    let Some(waker) = wakers.get(link.to as usize) else {
+    let (Some(committer), Some(waker)) = (server.committer(link.to), waker_of(server, link)) else {
         return;
     };
     let signals = link.ends.of_receiver(waker, &server.state.is_over);

@@ -1,15 +1,18 @@
-ghost use Rattle.std.specs.Prelude.{◌≤◌, length};
+ghost use Rattle.std.specs.Prelude.{◌≡◌, ◌≤◌, ℕ, false, IfOk, length, option_map, slice_get, string_bytes};
+ghost use Rattle.serve_line.specs.Marks.{DiffersInMarks, marks_of, unmarked};
+ghost use Rattle.serve_line.specs.Requests.{IsAnswerOfPage};
 
 use crate::browsers::{PageEndpoint, Seen};
 use crate::counting::mark_counts;
-use crate::failures::{is_idle, is_rest};
+use crate::failures::is_idle;
 use crate::looking::PageSnapshot;
 use crate::moments::milliseconds_of;
+use crate::requests::{drain, part_of, read_request, write_bounded};
 use crate::state::{Endpoint, Peer, Server};
 use serve_notes::{About, Kind, Notes};
-use serve_page::{Asked, LineNow, Refusal, answer, answer_metrics, asked_of, refusal};
+use serve_page::{Asked, CentreNow, LineNow, Refusal, answer, answer_metrics, refusal};
 use std::alloc::Global;
-use std::io::{ErrorKind, Read, Write};
+use std::io::Write;
 use std::net::{Shutdown, TcpStream};
 use std::sync::atomic::Ordering;
 use std::sync::{Arc, Wait};
@@ -20,9 +23,6 @@ use text_script::status::Fault;
 
 /// The longest wait of a read or a write of a browser's connection, in milliseconds.
 const PAGE_REST_MS: u64 = 250;
-
-/// The most reads of a request, writes of an answer, and reads after the answer, each.
-const TURNS: u32 = 16;
 
 /// The lifetime of a view, in milliseconds. The centres are read at most four times a second, whatever the number of
 /// requests.
@@ -103,50 +103,16 @@ fn serve_browser<R: Wait + Clock, N: Notes>(
     let _ = stream.set_nodelay(true);
     let _ = stream.set_read_timeout(Some(Duration::from_millis(PAGE_REST_MS)));
     let _ = stream.set_write_timeout(Some(Duration::from_millis(PAGE_REST_MS)));
-    let Some((asked, has_body)) = read_request(server, stream) else {
+    let (mut source, mut out) = (stream, stream);
+    let Some((asked, has_body)) = read_request(server, &mut source) else {
         return;
     };
     let Ok(text) = answer_to(rt, server, notes, endpoint, asked) else {
         return;
     };
-    write_bounded(stream, part_of(text.as_str(), has_body).as_bytes());
+    write_bounded(&mut out, part_of(text.as_str(), has_body).as_bytes());
     let _ = stream.shutdown(Shutdown::Write);
     drain(stream);
-}
-
-// The whole answer, or only its head with the empty line.
-fn part_of(text: &str, has_body: bool) -> &str {
-    if has_body {
-        return text;
-    }
-    match text.find("\r\n\r\n") {
-        Some(end) => text.get(..end.saturating_add(4)).unwrap_or(text),
-        None => text,
-    }
-}
-
-// The request, as soon as it is complete, and whether its answer has a body: the answer to HEAD has none. `None` if the
-// connection ends first.
-fn read_request(server: &Server<'_>, stream: &TcpStream) -> Option<(Asked, bool)> {
-    let mut bytes: Vec<u8> = Vec::new(server.alloc);
-    let mut source = stream;
-    for _ in 0..TURNS {
-        let mut piece = [0u8; 2_048];
-        match source.read(&mut piece) {
-            Ok(0) => return None,
-            Ok(count) => {
-                bytes.extend_from_slice(piece.get(..count)?).ok()?;
-                match asked_of(&bytes) {
-                    Asked::More => {}
-                    asked => return Some((asked, !bytes.starts_with(b"HEAD "))),
-                }
-            }
-            Err(error) if is_rest(error.kind()) && !server.state.is_empty() => {}
-            Err(_) => return None,
-        }
-    }
-    let has_body = !bytes.starts_with(b"HEAD ");
-    Some((Asked::Refused(Refusal::Time), has_body))
 }
 
 // The bytes of the answer. The centres are read only if the answer needs them, and by one thread at a time.
@@ -156,7 +122,9 @@ fn answer_to<R: Wait + Clock, N: Notes>(
     notes: &N,
     endpoint: &PageEndpoint,
     asked: Asked,
-) -> Result<String, Fault<'static>> {
+) -> Result<String, Fault<'static>>
+    ensures { IfOk result (λ text. IsAnswerOfPage asked (string_bytes text)) }
+{
     let mut seen = endpoint.seen.lock(rt);
     if let Asked::Page | Asked::Now { .. } | Asked::Health | Asked::Metrics = asked {
         refresh(rt, server, endpoint, &mut seen)?;
@@ -212,23 +180,57 @@ fn refresh<R: Wait + Clock>(
 
 // Marks whether connections are accepted, the number of connections, and the journals that can't be written. The result
 // is whether any of these has changed.
-fn mark_endpoints<R: Wait>(rt: &R, server: &Server<'_>, now: &mut LineNow) -> bool {
+fn mark_endpoints<R: Wait>(rt: &R, server: &Server<'_>, now: &mut LineNow) -> bool
+    ensures others { DiffersInMarks now.old now.new }
+    ensures stopped { result ≡ false → now.new.is_stopped ≡ now.old.is_stopped }
+    ensures same { result ≡ false → (c : ℕ) → option_map marks_of (slice_get now.new.centres.items c)
+        ≡ option_map marks_of (slice_get now.old.centres.items c) }
+{
     let is_stopped = server.state.is_stopped();
     let mut has_changed = is_stopped != now.is_stopped;
     now.is_stopped = is_stopped;
     for endpoint in server.endpoints {
-        let Peer::Trains(centre) = endpoint.peer else {
-            continue;
-        };
-        let Some(place) = now.centres.get_mut(centre as usize) else {
-            continue;
-        };
-        let marks = (taken_in(endpoint), server.is_stuck(rt, centre));
-        has_changed = has_changed || marks != (place.taken, place.is_stuck);
-        (place.taken, place.is_stuck) = marks;
-        place.seats = endpoint.slots.len() as u64;
+        if mark_endpoint(rt, server, endpoint, &mut now.centres) {
+            has_changed = true;
+        }
     }
     has_changed
+}
+
+// Marks the centre of an endpoint. The result is whether a mark other than the number of slots has changed.
+fn mark_endpoint<R: Wait>(
+    rt: &R,
+    server: &Server<'_>,
+    endpoint: &Endpoint,
+    centres: &mut [CentreNow],
+) -> bool
+    ensures others { (c : ℕ) → option_map unmarked (slice_get centres.new c)
+        ≡ option_map unmarked (slice_get centres.old c) }
+    ensures same { result ≡ false → (c : ℕ) → option_map marks_of (slice_get centres.new c)
+        ≡ option_map marks_of (slice_get centres.old c) }
+{
+    let Peer::Trains(centre) = endpoint.peer else {
+        return false;
+    };
+    let at = centre as usize;
+    if at >= centres.len() {
+        return false;
+    }
+    let before = centres[at];
+    centres[at] = CentreNow {
+        taken: taken_in(endpoint),
+        seats: endpoint.slots.len() as u64,
+        is_stuck: server.is_stuck(rt, centre),
+        ..before
+    };
+    has_other_marks(before, centres[at])
+}
+
+// Whether a centre has another number of connections, or a journal that can be written now or no longer.
+fn has_other_marks(before: CentreNow, now: CentreNow) -> bool
+    ensures { result ≡ false → marks_of now ≡ marks_of before }
+{
+    before.taken != now.taken || before.is_stuck != now.is_stuck
 }
 
 // The number of taken slots of an endpoint.
@@ -242,37 +244,4 @@ fn taken_in(endpoint: &Endpoint) -> u64
         }
     }
     taken
-}
-
-// Writes as much of the text as a browser takes in `TURNS` writes.
-fn write_bounded(stream: &TcpStream, text: &[u8]) {
-    let mut out = stream;
-    let mut rest = text;
-    for _ in 0..TURNS {
-        if rest.is_empty() {
-            return;
-        }
-        match out.write(rest) {
-            Ok(count) => match rest.get(count..) {
-                Some(after) => rest = after,
-                None => return,
-            },
-            Err(error) if is_rest(error.kind()) => {}
-            Err(_) => return,
-        }
-    }
-}
-
-// Reads the bytes after a browser's request, so that the system does not cut the answer off.
-fn drain(stream: &TcpStream) {
-    let mut source = stream;
-    let mut piece = [0u8; 2_048];
-    for _ in 0..TURNS {
-        match source.read(&mut piece) {
-            Ok(0) => return,
-            Ok(_) => {}
-            Err(error) if error.kind() == ErrorKind::Interrupted => {}
-            Err(_) => return,
-        }
-    }
 }

@@ -1,7 +1,8 @@
 //! The print of the centres when they end.
 
-ghost use Rattle.std.specs.Prelude.{OnOk};
-ghost use Rattle.serve_line.specs.Prints.{AddsPrint};
+ghost use Rattle.std.specs.List.{fold};
+ghost use Rattle.std.specs.Prelude.{◌≡◌, OnOk};
+ghost use Rattle.serve_line.specs.Prints.{AddsPrint, with_entries};
 
 use crate::tally::{Tally, TallyWriter};
 use rbc_line::Line;
@@ -31,16 +32,24 @@ pub(crate) fn print_noted<N: Notes, O: Write>(
 
 // Notes that the print has only the first events.
 fn note_short<N: Notes>(notes: &N, family: &Family, printed: u64) {
-    let mut all = 0u64;
-    for log in family.logs() {
-        all = all.saturating_add(log.entries().len() as u64);
-    }
+    let all = entries_of(family);
     notes.note(
         About::of(Kind::PrintShort),
         format_args!(
             "the print ends early: {printed} of {all} events are in it, the last perhaps in part"
         ),
     );
+}
+
+// The number of entries of all logs.
+fn entries_of(family: &Family) -> u64
+    ensures { result ≡ fold with_entries 0 family.now }
+{
+    let mut all = 0u64;
+    for log in family.logs() {
+        all = all.saturating_add(log.entries().len() as u64);
+    }
+    all
 }
 
 // Prints all events through a buffer, which is empty afterwards, unless a write fails.

@@ -1,5 +1,6 @@
 //! The true places of trains that run in the process of the centres.
 
+ghost use Rattle.std.specs.Arc.{arc_value};
 ghost use Rattle.std.specs.Prelude.{◌≡◌, false, IfOk};
 
 use std::alloc::{AllocError, Global};
@@ -22,7 +23,9 @@ impl TruePlaces {
     }
 
     /// The same places, for another holder.
-    pub fn share(&self) -> Result<TruePlaces, AllocError> {
+    pub fn share(&self) -> Result<TruePlaces, AllocError>
+        ensures { IfOk result (λ places. arc_value places.shared ≡ arc_value self.now.shared) }
+    {
         Ok(TruePlaces {
             shared: Arc::try_clone(&self.shared)?,
         })

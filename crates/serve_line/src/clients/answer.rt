@@ -39,7 +39,7 @@ pub(crate) fn answer<R: Wait>(
     command: Command,
 ) -> Result<Opened<Vec<u8>>, Fault<'static>>
     ensures { IfOk result (λ opened. IsAnswerTo served.entry.server.now.line.now
-        served.entry.server.now.options.shows_life command opened.answer.items) }
+        served.entry.server.now.nodes.now served.entry.server.now.options.shows_life command opened.answer.items) }
 {
     match command {
         Command::Nothing | Command::Stop | Command::StopNow => Ok(Opened::nothing(
@@ -72,8 +72,8 @@ fn show_written<R: Wait>(
     server: &Server<'_>,
     slot: &Slot,
 ) -> Result<Opened<Vec<u8>>, Fault<'static>>
-    ensures { IfOk result (λ opened. IsShowAnswer server.now.line.now server.now.options.shows_life
-        opened.answer.items) }
+    ensures { IfOk result (λ opened. IsShowAnswer server.now.line.now server.now.nodes.now
+        server.now.options.shows_life opened.answer.items) }
 {
     let text = show_text(rt, server)?;
     let is_waiting = slot.is_reserve && server.sinks.iter().any(|sink| sink.queue.is_long());
@@ -85,7 +85,8 @@ fn show_written<R: Wait>(
 
 // The line as the centres show it, and the usage of the centres if the options ask for it.
 fn show_text<R: Wait>(rt: &R, server: &Server<'_>) -> Result<Vec<u8>, Fault<'static>>
-    ensures { IfOk result (λ text. IsShowText server.now.line.now server.now.options.shows_life text.items) }
+    ensures { IfOk result (λ text. IsShowText server.now.line.now server.now.nodes.now
+        server.now.options.shows_life text.items) }
 {
     let (alloc, line, nodes) = (server.alloc, server.line, server.nodes);
     let mut text = Vec::new(alloc);
@@ -105,8 +106,8 @@ fn commit<R: Wait>(
     event: Event,
     printed: &WorldEvent,
 ) -> Result<Opened<Vec<u8>>, Fault<'static>>
-    ensures { IfOk result
-        (λ opened. IsAnswer served.entry.server.now.line.now centre printed.now opened.answer.items) }
+    ensures { IfOk result (λ opened. IsAnswer served.entry.server.now.line.now served.entry.server.now.nodes.now
+        centre event printed.now opened.answer.items) }
 {
     let Served { server, slot } = served;
     let (Some(committer), Some(share)) = (server.committer(centre), shares.get_mut(centre as usize))

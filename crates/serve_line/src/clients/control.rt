@@ -1,6 +1,6 @@
-ghost use Rattle.std.specs.Prelude.{◌≡◌};
+ghost use Rattle.std.specs.Prelude.{◌≡◌, ◌≢◌};
 ghost use Rattle.serve_notes.specs.declared.about.PeerConnection.TheVariants.{Control};
-ghost use Rattle.serve_line.specs.Answering.{IsNextAfter, next_after};
+ghost use Rattle.serve_line.specs.Answering.{IsNext, IsNextAfter, next_after, rests_after};
 ghost use Rattle.serve_line.specs.declared.clients.sending.Sent.{Sent as SentPart};
 
 use crate::clients::answer::{SCRIPT_FAULT, Served, answer, fixed};
@@ -12,6 +12,7 @@ use crate::state::{PeerStream, Server, Slot};
 use rbc_node::Share;
 use serve_control::Command;
 use serve_notes::{About, Kind, Notes, PeerConnection};
+use std::io::Write;
 use std::sync::Wait;
 use std::sync::atomic::Ordering;
 use std::time::{Clock, Duration};
@@ -27,6 +28,14 @@ enum Next {
     Stop,
     /// The centres are to stop, and trains have no time to end their connections.
     StopNow,
+}
+
+/// A connection of the interlocking, and the receiver of its notes.
+#[derive(Drop)]
+struct Client<'a, 'h, N> {
+    served: Served<'a, 'h>,
+    stream: &'a PeerStream,
+    notes: &'a N,
 }
 
 /// Serves a connection of the interlocking to its end.
@@ -45,7 +54,12 @@ pub(crate) fn serve_control<R: Wait + Clock, N: Notes>(
     let rest = Duration::from_millis(CONTROL_REST_MS);
     stream.set_waits(rest, rest);
     let mut shares = slot.shares.lock(rt);
-    match answer_rows(rt, server, notes, slot, shares.as_mut_slice(), stream) {
+    let client = Client {
+        served: Served { server, slot },
+        stream,
+        notes,
+    };
+    match answer_rows(rt, &client, shares.as_mut_slice()) {
         Next::Stop => {
             notes.note(
                 about_slot(Kind::Stop, number),
@@ -78,30 +92,21 @@ fn about_slot(kind: Kind, number: usize) -> About<'static>
 // Answers the lines of a connection until it ends, or until all sessions have ended.
 fn answer_rows<R: Wait + Clock, N: Notes>(
     rt: &R,
-    server: &Server<'_>,
-    notes: &N,
-    slot: &Slot,
+    client: &Client<'_, '_, N>,
     shares: &mut [Share],
-    stream: &PeerStream,
-) -> Next {
-    let mut rows = RowReader::new(server.alloc, stream);
-    let served = Served { server, slot };
+) -> Next
+    ensures stops { IsNext client.now.served.server.now.line.now result }
+    ensures ended { result ≢ Next.Listen }
+{
+    let Served { server, slot } = client.served;
+    let mut out = client.stream;
+    let mut rows = RowReader::new(server.alloc, client.stream);
     let mut rests = 0u32;
     for _ in rt.forever() {
-        let next = match rows.next() {
-            Came::Row(row) => {
-                rests = 0;
-                slot.heard.store(server.state.hear(), Ordering::SeqCst);
-                answer_row(rt, served, notes, shares, &row, stream)
-            }
-            Came::Nothing if server.state.is_empty() => Next::End,
-            Came::Nothing => {
-                rests = rests.saturating_add(1);
-                Next::Listen
-            }
-            Came::End => Next::End,
-        };
-        let told = send(rt, stream, &slot.take_told(rt, server.alloc));
+        let came = rows.next();
+        rests = rests_after(rests, &came);
+        let next = after_read(rt, client, shares, came);
+        let told = send(rt, &mut out, &slot.take_told(rt, server.alloc));
         if next != Next::Listen {
             return next;
         }
@@ -112,6 +117,38 @@ fn answer_rows<R: Wait + Clock, N: Notes>(
     unreachable!()
 }
 
+// The number of reads without a line since the last line.
+fn rests_after(rests: u32, came: &Came) -> u32
+    ensures { result ≡ rests_after rests came.now }
+{
+    match came {
+        Came::Row(_) => 0,
+        Came::Nothing | Came::End => rests.saturating_add(1),
+    }
+}
+
+// Answers the line that was read, if there is one.
+#[tactic(auto, using(crate::proofs::AnsweringLemmas::next_by))]
+fn after_read<R: Wait + Clock, N: Notes>(
+    rt: &R,
+    client: &Client<'_, '_, N>,
+    shares: &mut [Share],
+    came: Came,
+) -> Next
+    ensures { IsNext client.now.served.server.now.line.now result }
+{
+    let Served { server, slot } = client.served;
+    match came {
+        Came::Row(row) => {
+            slot.heard.store(server.state.hear(), Ordering::SeqCst);
+            answer_row(rt, client, shares, &row)
+        }
+        Came::Nothing if server.state.is_empty() => Next::End,
+        Came::Nothing => Next::Listen,
+        Came::End => Next::End,
+    }
+}
+
 // Whether the reserve connection ends. The thread of the endpoint serves it, and other connections wait.
 fn is_over(server: &Server<'_>, rests: u32) -> bool {
     rests >= RESERVE_RESTS || server.state.is_stopped()
@@ -120,15 +157,15 @@ fn is_over(server: &Server<'_>, rests: u32) -> bool {
 // Answers one line.
 fn answer_row<R: Wait + Clock, N: Notes>(
     rt: &R,
-    served: Served<'_, '_>,
-    notes: &N,
+    client: &Client<'_, '_, N>,
     shares: &mut [Share],
     row: &[u8],
-    stream: &PeerStream,
 ) -> Next
-    ensures { IsNextAfter served.entry.server.now.line.now row.now result }
+    ensures { IsNextAfter client.now.served.server.now.line.now row.now result }
 {
-    let Served { server, slot } = served;
+    let Client { served, notes, .. } = client;
+    let Served { server, slot } = *served;
+    let mut out = client.stream;
     let about = about_slot(Kind::Line, slot.number);
     let command = match meaning_of(server.alloc, server.line, row) {
         Meaning::Command(Command::Stop) => return Next::Stop,
@@ -136,7 +173,7 @@ fn answer_row<R: Wait + Clock, N: Notes>(
         Meaning::Command(command) => command,
         Meaning::NoForm => {
             notes.note(about, "control: a line is refused, script fault");
-            return refuse(rt, server, stream);
+            return refuse(rt, server, &mut out);
         }
         Meaning::Foreign => {
             notes.note(
@@ -147,18 +184,18 @@ fn answer_row<R: Wait + Clock, N: Notes>(
         }
         Meaning::NoMemory => return Next::End,
     };
-    match answer(rt, served, shares, command) {
-        Ok(text) => answered(send(rt, stream, &text)),
+    match answer(rt, *served, shares, command) {
+        Ok(text) => answered(send(rt, &mut out, &text)),
         Err(_) => Next::End,
     }
 }
 
 // Answers a line that has no valid form.
-fn refuse<R: Wait + Clock>(rt: &R, server: &Server<'_>, stream: &PeerStream) -> Next
+fn refuse<R: Wait + Clock, O: Write>(rt: &R, server: &Server<'_>, out: &mut O) -> Next
     ensures { (sent : SentPart) × (result ≡ next_after sent) }
 {
     match fixed(server.alloc, SCRIPT_FAULT) {
-        Ok(text) => answered(send(rt, stream, &text)),
+        Ok(text) => answered(send(rt, out, &text)),
         Err(_) => Next::End,
     }
 }

@@ -1,4 +1,5 @@
-ghost use Rattle.std.specs.Prelude.{◌≡◌, IfOk, IfSome, map, true};
+ghost use Rattle.std.specs.Prelude.{◌≡◌, IfOk, IfSome, map, None, true};
+ghost use Rattle.serve_line.specs.Peers.{is_interlocking};
 ghost use Rattle.serve_line.specs.Slots.{IsSlotOf};
 
 use crate::clients::connection_refusal::ConnectionRefusal;
@@ -60,7 +61,9 @@ pub fn run_endpoint<R: Threads + Wait + Sync + Clock, N: Notes + Sync>(
 }
 
 // The source of an endpoint's connections. The control endpoint keeps a file in reserve.
-fn entrance_of<R: Wait>(rt: &R, endpoint: &Endpoint) -> Option<Entrance> {
+fn entrance_of<R: Wait>(rt: &R, endpoint: &Endpoint) -> Option<Entrance>
+    ensures { IfSome result (λ entrance. entrance.has_reserve ≡ is_interlocking endpoint.now.peer) }
+{
     let listener = endpoint.listener.lock(rt).take()?;
     let has_reserve = matches!(endpoint.peer, Peer::Interlocking);
     Some(Entrance::new(listener, has_reserve))
@@ -74,7 +77,10 @@ struct Looks {
 }
 
 impl Looks {
-    fn new() -> Looks {
+    fn new() -> Looks
+        ensures life { (result.life.log.noted ≡ 0) × (result.life.clock.noted ≡ 0) × (result.life.link.noted ≡ 0) }
+        ensures watch { result.watch.moves ≡ record { left = 0; since = None } }
+    {
         Looks {
             life: Life::new(),
             watch: Watch::new(),

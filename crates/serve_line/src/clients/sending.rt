@@ -1,10 +1,9 @@
-ghost use Rattle.std.specs.Prelude.{◌≡◌, ℕ, drop, IfSome};
-ghost use Rattle.serve_line.specs.Sendings.{is_late};
+ghost use Rattle.std.specs.Prelude.{◌≡◌, IfNone, IfSome};
+ghost use Rattle.serve_line.specs.Sendings.{is_late, IsSent, IsWritten};
 
 use crate::clients::limits::PATIENCE_S;
 use crate::failures::is_rest;
 use crate::moments::seconds_between;
-use crate::state::PeerStream;
 use serve_journal::Opened;
 use std::io::Write;
 use std::time::{Clock, Instant};
@@ -18,7 +17,10 @@ pub(crate) enum Sent {
 }
 
 /// Sends an answer. Ten seconds after the start, no further part of it is written.
-pub(crate) fn send<R: Clock>(rt: &R, stream: &PeerStream, text: &Opened<Vec<u8>>) -> Sent {
+#[tactic(auto, using(crate::proofs::WrittenLemmas::written_steps))]
+pub(crate) fn send<R: Clock, O: Write>(rt: &R, out: &mut O, text: &Opened<Vec<u8>>) -> Sent
+    ensures { IsSent text.now.answer.items result (O.contents out.old) (O.contents out.new) }
+{
     let Ok(begun) = Instant::now(rt) else {
         return Sent::Short;
     };
@@ -27,7 +29,7 @@ pub(crate) fn send<R: Clock>(rt: &R, stream: &PeerStream, text: &Opened<Vec<u8>>
         if rest.is_empty() {
             return Sent::Whole;
         }
-        let Some(left) = write_some(stream, rest) else {
+        let Some(left) = write_some(out, rest) else {
             break;
         };
         rest = left;
@@ -38,11 +40,14 @@ pub(crate) fn send<R: Clock>(rt: &R, stream: &PeerStream, text: &Opened<Vec<u8>>
     Sent::Short
 }
 
-// Writes as many bytes as the connection takes now. The result is the rest; `None` if the connection failed.
-fn write_some<'a>(stream: &PeerStream, text: &'a [u8]) -> Option<&'a [u8]>
-    ensures { IfSome result (λ rest. (count : ℕ) × (rest.now ≡ drop count text.entry.now)) }
+/// Writes as many bytes as the connection takes now. The result is the rest; `None` if the connection failed.
+#[tactic(auto, using(crate::proofs::WrittenLemmas::written_steps))]
+pub(crate) fn write_some<'a, O: Write>(out: &mut O, text: &'a [u8]) -> Option<&'a [u8]>
+    ensures some { IfSome result
+        (λ rest. IsWritten text.entry.now rest.now (O.contents out.old) (O.contents out.new)) }
+    ensures none { IfNone result
+        (IsWritten text.entry.now text.entry.now (O.contents out.old) (O.contents out.new)) }
 {
-    let mut out = stream;
     match out.write(text) {
         Ok(0) => None,
         Ok(count) => text.get(count..),

@@ -1,4 +1,4 @@
-ghost use Rattle.std.specs.Prelude.{◌≡◌, IfOk, OnErr};
+ghost use Rattle.std.specs.Prelude.{◌≡◌, ◌-◌, IfOk, length, OnErr, option_and_then, slice_get};
 ghost use Rattle.rbc_node.specs.Node.{centre_of};
 ghost use Rattle.serve_line.specs.Journaling.Keeping.{HasKept, IsTurn, TriesWrite, Writes};
 
@@ -115,7 +115,9 @@ impl Progress {
 }
 
 // The time of the events of a write. They all have the same.
-fn time_of(entries: &[Entry]) -> Option<u64> {
+fn time_of(entries: &[Entry]) -> Option<u64>
+    ensures { result ≡ option_and_then (λ entry. entry.time_ms) (slice_get entries.now (length entries.now - 1)) }
+{
     entries.last()?.time_ms
 }
 

@@ -1,9 +1,11 @@
 ghost use Rattle.std.specs.Prelude.{◌<◌, ◌==◌, ◌≡◌, ◌≢◌, ℕ, [], IfOk, IfSome, length, map};
-ghost use Rattle.std.specs.Prelude.{not, replicate, slice_get, slice_set};
+ghost use Rattle.std.specs.Prelude.{false, None, not, OnOk, replicate, slice_get, slice_set, string_bytes};
+ghost use Rattle.rbc_book.specs.declared.page.Entry.TheVariants.{Shut};
 ghost use Rattle.serve_line.specs.Marks.{TakesMarks, with_silent};
-ghost use Rattle.serve_line.specs.Snapshots.{IsViewIn};
+ghost use Rattle.serve_line.specs.Snapshots.{HasLooked, IsSeenAt, IsViewIn};
 ghost use Rattle.serve_line.specs.Directions.{directions_of};
 ghost use Rattle.serve_line.specs.Pages.{unused_link};
+ghost use Rattle.serve_line.specs.declared.status.snapshot.Snapshot.{Snapshot as Seen};
 
 use crate::directions::directions_of;
 use crate::journaling::Journal;
@@ -43,9 +45,23 @@ pub struct Found {
     silent: Vec<[u64; 10]>,
 }
 
+// The line as the centres show it that were read.
+#[derive(Drop)]
+struct View {
+    alloc: Global,
+    now: LineNow,
+    snapshot: Snapshot,
+}
+
 impl PageSnapshot {
     /// A view before the first look. The centres listen at these ports.
-    pub fn new(alloc: Global, line: &Line, ports: Vec<u16>) -> Result<PageSnapshot, AllocError> {
+    pub fn new(alloc: Global, line: &Line, ports: Vec<u16>) -> Result<PageSnapshot, AllocError>
+        ensures events { IfOk result (λ snapshot. snapshot.now.events ≡ 0) }
+        ensures sections { IfOk result (λ snapshot. snapshot.now.sections.items
+            ≡ replicate (length line.now.sections) UNSEEN) }
+        ensures silences { IfOk result (λ snapshot. snapshot.silences.items
+            ≡ replicate (length line.now.centres) (record { read = 0; counts = replicate 10 0 })) }
+    {
         Ok(PageSnapshot {
             layout: layout_of(alloc, line, ports)?,
             now: nothing_of(alloc, line)?,
@@ -63,26 +79,47 @@ impl PageSnapshot {
         alloc: Global,
         line: &Line,
         nodes: &[Node],
-    ) -> Result<Found, Fault<'static>> {
-        let mut silent = Vec::new(alloc);
-        for (node, silences) in nodes.iter().zip(self.silences.iter_mut()) {
-            silences.catch_up(rt, node);
-            silent.push(silences.counts())?;
-        }
-        let mut now = nothing_of(alloc, line)?;
-        let mut snapshot = Snapshot::new(alloc, line)?;
+    ) -> Result<Found, Fault<'static>>
+        ensures shown { self.new.now ≡ self.old.now }
+        ensures sections { IfOk result (λ found. (seen : Seen) × IsSeenAt line.now nodes.now seen
+            × ((s : ℕ) → s < length line.now.sections
+            → IfSome (slice_get found.now.sections.items s) (IsViewIn line.now seen s))) }
+        ensures last { IfOk result (λ found. map (λ e. string_bytes e.words) found.now.last.items
+            ≡ map (λ t. string_bytes t.words) self.new.news.told.items) }
+    {
+        let silent = silent_in(rt, alloc, nodes, &mut self.silences)?;
+        let mut view = View::new(alloc, line)?;
         for node in nodes {
-            let look = node.look(rt);
-            let log = look.log();
-            see_centre(line, log, &mut now)?;
-            snapshot.add(line, log);
-            self.sent.read_on(line, log.core());
-            self.news.read_on(alloc, log)?;
+            self.read(rt, line, node, &mut view)?;
         }
+        let View {
+            mut now,
+            snapshot,
+            ..
+        } = view;
         self.sent.add_handovers(&mut now);
         see_sections(line, &snapshot, &mut now.sections);
         now.last = self.news.tell(alloc, line)?;
         Ok(Found { now, silent })
+    }
+
+    // Reads a centre, and adds it to the view.
+    fn read<R: Wait>(
+        &mut self,
+        rt: &R,
+        line: &Line,
+        node: &Node,
+        view: &mut View,
+    ) -> Result<(), AllocError>
+        ensures shown { self.new.now ≡ self.old.now }
+        ensures seen { OnOk result (HasLooked line.now node.now view.old.snapshot view.new.snapshot) }
+    {
+        let look = node.look(rt);
+        let log = look.log();
+        see_centre(line, log, &mut view.now)?;
+        view.snapshot.add(line, log);
+        self.sent.read_on(line, log.core());
+        self.news.read_on(view.alloc, log)
     }
 
     /// Shows the result of a look, and returns whether its events are others. The marks of the endpoints and the true
@@ -103,9 +140,45 @@ impl PageSnapshot {
 
     /// Adds the times of the last events, as the journals have them, and returns whether one has changed. The view is
     /// that of the last look.
-    pub fn add_times<R: Wait>(&mut self, rt: &R, journals: &[Journal]) -> bool {
+    pub fn add_times<R: Wait>(&mut self, rt: &R, journals: &[Journal]) -> bool
+        ensures { result ≡ false → self.new.now.last.items ≡ self.old.now.last.items }
+    {
         self.news.add_times(rt, journals, &mut self.now.last)
     }
+}
+
+impl View {
+    // The line before the first centre is read.
+    fn new(alloc: Global, line: &Line) -> Result<View, AllocError>
+        ensures events { IfOk result (λ view. view.now.events ≡ 0) }
+        ensures pages { IfOk result (λ view. view.snapshot.pages.items
+            ≡ replicate (length line.now.sections) (record { entry = Shut; is_wished = false })) }
+        ensures missions { IfOk result (λ view. view.snapshot.missions.items
+            ≡ replicate (length line.now.trains) None) }
+    {
+        let now = nothing_of(alloc, line)?;
+        let snapshot = Snapshot::new(alloc, line)?;
+        Ok(View {
+            alloc,
+            now,
+            snapshot,
+        })
+    }
+}
+
+// For each centre its silent messages, by their reasons. It reads the new entries of the logs first.
+fn silent_in<R: Wait>(
+    rt: &R,
+    alloc: Global,
+    nodes: &[Node],
+    silences: &mut [Silences],
+) -> Result<Vec<[u64; 10]>, AllocError> {
+    let mut silent = Vec::new(alloc);
+    for (node, silences) in nodes.iter().zip(silences.iter_mut()) {
+        silences.catch_up(rt, node);
+        silent.push(silences.counts())?;
+    }
+    Ok(silent)
 }
 
 // Shows each section as the centres show it.

@@ -1,4 +1,4 @@
-ghost use Rattle.std.specs.Prelude.{◌≡◌, IfOk, length, unwrap_or};
+ghost use Rattle.std.specs.Prelude.{◌≡◌, IfOk, length, slice_get, unwrap_or};
 ghost use Rattle.rbc_spec.specs.Line.{train_number};
 
 use rbc_line::Line;
@@ -27,7 +27,10 @@ impl Paces {
     }
 
     /// The bucket of an engine, by its NID_ENGINE.
-    pub fn bucket(&self, line: &Line, nid_engine: u32) -> &Mutex<Bucket> {
+    pub fn bucket(&self, line: &Line, nid_engine: u32) -> &Mutex<Bucket>
+        ensures { result.now ≡ unwrap_or (slice_get self.now.trains.items
+            (unwrap_or (train_number line.now nid_engine) (length line.now.trains))) self.now.others }
+    {
         match self.trains.get(place_of(line, nid_engine)) {
             Some(bucket) => bucket,
             None => &self.others,

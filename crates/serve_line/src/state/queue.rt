@@ -1,3 +1,8 @@
+ghost use Rattle.std.specs.Prelude.{◌≡◌, ℕ, None, Option};
+ghost use Rattle.std.specs.declared.time.Instant.{Instant as Moment};
+ghost use Rattle.serve_line.specs.Watches.{IsMovement, marks_of};
+ghost use Rattle.serve_line.specs.declared.state.watch.Movement.{Movement as Move};
+
 use crate::state::watch::{LONG_S, LastMove, Movement};
 use serve_notes::{About, Kind, Notes};
 use std::sync::atomic::{AtomicBool, AtomicU64, Ordering};
@@ -50,27 +55,40 @@ pub struct Watch {
 
 impl Watch {
     /// A watch before its first check.
-    pub fn new() -> Watch {
+    pub fn new() -> Watch
+        ensures { result.moves ≡ record { left = 0; since = None } }
+    {
         Watch {
             moves: LastMove::new(),
         }
     }
 
-    /// Checks the queue of the centre of this name.
-    pub fn look<T: Clock, N: Notes>(&mut self, clock: &T, queue: &Queue, notes: &N, name: &str) {
+    /// Checks the queue of the centre of this name. Only the thread of the centre's endpoint calls it.
+    pub fn look<T: Clock, N: Notes>(&mut self, clock: &T, queue: &Queue, notes: &N, name: &str)
+        ensures { (entered left : ℕ) × (now : Option Moment) × (movement : Move)
+            × IsMovement self.old.moves entered left now movement self.new.moves }
+    {
         let left = queue.left.load(Ordering::SeqCst);
         let entered = queue.entered.load(Ordering::SeqCst);
-        match self.moves.look(entered, left, Instant::now(clock).ok()) {
-            Movement::Moves => queue.is_long.store(false, Ordering::SeqCst),
-            Movement::Waits => {}
-            Movement::IsLong => {
-                if !queue.is_long.swap(true, Ordering::SeqCst) {
-                    notes.note(
-                        About::centre(Kind::JournalSlow, name),
-                        format_args!("{name}: an event has waited for the journal for {LONG_S} s"),
-                    );
-                }
-            }
+        let movement = self.moves.look(entered, left, Instant::now(clock).ok());
+        let (is_long, is_noted) = marks_of(movement, queue.is_long());
+        queue.is_long.store(is_long, Ordering::SeqCst);
+        if is_noted {
+            notes.note(
+                About::centre(Kind::JournalSlow, name),
+                format_args!("{name}: an event has waited for the journal for {LONG_S} s"),
+            );
         }
+    }
+}
+
+// Whether a queue that moves so is long, and whether that is noted. `was_long`: whether it was long before.
+fn marks_of(movement: Movement, was_long: bool) -> (bool, bool)
+    ensures { result ≡ marks_of movement was_long }
+{
+    match movement {
+        Movement::Moves => (false, false),
+        Movement::Waits => (was_long, false),
+        Movement::IsLong => (true, !was_long),
     }
 }

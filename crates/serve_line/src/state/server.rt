@@ -1,4 +1,4 @@
-ghost use Rattle.std.specs.Prelude.{◌≡◌, IfSome, option_map, slice_get, true};
+ghost use Rattle.std.specs.Prelude.{◌≡◌, false, IfSome, None, option_map, slice_get, true};
 ghost use Rattle.rbc_log.specs.Log.{LogValue};
 ghost use Rattle.rbc_node.specs.Node.{centre_of, IsLogOf};
 ghost use Rattle.serve_journal.specs.Shown.{shows};
@@ -208,7 +208,9 @@ impl Server<'_> {
     }
 
     /// Whether the centre's journal can't be written now. Then the centre takes nothing.
-    pub fn is_stuck<R: Wait>(&self, rt: &R, centre: u8) -> bool {
+    pub fn is_stuck<R: Wait>(&self, rt: &R, centre: u8) -> bool
+        ensures { slice_get self.now.journals.now centre ≡ None → result ≡ false }
+    {
         match self.journal(centre) {
             Some(journal) => journal.is_stuck(rt),
             None => false,
@@ -267,7 +269,9 @@ impl Server<'_> {
     }
 
     /// Whether the connection with this number serves a train.
-    pub fn is_serving<R: Wait>(&self, rt: &R, peer: Peer, number: usize) -> bool {
+    pub fn is_serving<R: Wait>(&self, rt: &R, peer: Peer, number: usize) -> bool
+        ensures { at_peer self.now.sinks.now peer ≡ None → result ≡ false }
+    {
         match self.sink(peer) {
             Some(sink) => sink.connections.is_serving(rt, number),
             None => false,

@@ -43,7 +43,8 @@ pub fn show<R: Wait>(
     mentions: &Mutex<MentionOrder>,
     text: &mut Vec<u8>,
 ) -> Result<(), Fault<'static>>
-    ensures { OnOk result ((shown : List ℕ) × IsShow line.now shown × (text.new.items ≡ text.old.items ++ shown)) }
+    ensures { OnOk result ((shown : List ℕ) × IsShow line.now nodes.now shown
+        × (text.new.items ≡ text.old.items ++ shown)) }
 {
     let mut snapshot = Snapshot::new(alloc, line)?;
     let mut mention_order = mentions.lock(rt);

@@ -1,0 +1,5 @@
+use Rattle.serve_line.proofs.requests.write_bounded.Given as goal
+use Rattle.serve_line.specs.Sendings.{IsWritten}
+
+abbrev pub invariant-loop : goal.invariant-loop
+invariant-loop g l = IsWritten l.text l.rest (g.O.Write.contents l.initial.out) (g.O.Write.contents l.out)
