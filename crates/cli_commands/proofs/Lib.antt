@@ -1,3 +1,5 @@
 mod Refusals
 pub mod RunningLemmas
 pub mod RerunningLemmas
+pub mod InspectingLemmas
+pub mod RowFaultLemmas

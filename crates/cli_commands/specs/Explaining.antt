@@ -1,2 +1,3 @@
 pub mod Lowest
 pub mod Results
+pub mod Rows

@@ -1,2 +1,3 @@
 pub mod Findings
 pub mod Notes
+pub mod Texts

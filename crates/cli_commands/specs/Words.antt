@@ -39,7 +39,8 @@ values words name = unwrap_or (option_map raw_values (matched_of (found_of words
 
 -- the number of this many bits that a text spells; none if the text spells no such number
 abbrev pub Spells : ℕ → List ℕ → Option ℕ → Type 0
-Spells bits text (Some number) = number ≡ digits_value 10 (without_leading_plus text)
+Spells bits text (Some number) =
+    IsNumeral 10 (without_leading_plus text) × (number ≡ digits_value 10 (without_leading_plus text))
 Spells bits text None =
     ¬ (IsNumeral 10 (without_leading_plus text) × (digits_value 10 (without_leading_plus text) < 2 ^ bits))
 

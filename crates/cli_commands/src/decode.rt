@@ -1,6 +1,8 @@
 //! Shows bytes as messages or as a frame, field by field.
 
-ghost use Rattle.std.specs.Prelude.{◌≡◌, ◌⊎◌, false, if◌then◌else◌, IfErr, IsErrOf, Ok, OnOk, true};
+ghost use Rattle.std.specs.Prelude.{◌-◌, ◌^◌, ◌≡◌, ◌⊎◌, drop, false, if◌then◌else◌, IfErr, IfOk, IsErrOf, map, min, Ok};
+ghost use Rattle.std.specs.Prelude.{OnOk, string_bytes, true};
+ghost use Rattle.cli_commands.specs.DecodeWords.{is_option, joined, plain_count};
 ghost use Rattle.text_fields.specs.declared.print.Form.TheVariants.{Json, Text};
 ghost use Rattle.text_script.specs.Status.Statuses.{status_of};
 ghost use Rattle.text_script.specs.declared.status.fault.Fault.TheVariants.{Differs};
@@ -104,11 +106,13 @@ fn bytes_of_words<S: AsStr>(alloc: Global, words: &[S]) -> Result<Option<Vec<u8>
 }
 
 // The words besides the options, with a blank after each.
-fn joined<S: AsStr>(alloc: Global, words: &[S]) -> Result<String, AllocError> {
+fn joined<S: AsStr>(alloc: Global, words: &[S]) -> Result<String, AllocError>
+    ensures { IfOk result (λ text. string_bytes text ≡ joined (map S.text (drop 1 words.now))) }
+{
     let mut text = String::new(alloc);
-    for word in words.iter().skip(1) {
+    for word in arguments(words) {
         let word = word.as_str();
-        if !word.starts_with("--") {
+        if !is_option(word) {
             text.push_str(word)?;
             text.push_str(" ")?;
         }
@@ -117,22 +121,37 @@ fn joined<S: AsStr>(alloc: Global, words: &[S]) -> Result<String, AllocError> {
 }
 
 // How many words there are besides the options.
-fn count_of<S: AsStr>(words: &[S]) -> u32 {
+fn count_of<S: AsStr>(words: &[S]) -> u32
+    ensures { result ≡ min (plain_count (map S.text (drop 1 words.now))) (2 ^ 32 - 1) }
+{
     let mut count = 0u32;
-    for word in words.iter().skip(1) {
-        if !word.as_str().starts_with("--") {
+    for word in arguments(words) {
+        if !is_option(word.as_str()) {
             count = count.saturating_add(1);
         }
     }
     count
 }
 
+// The words after the name of the command.
+fn arguments<S>(words: &[S]) -> &[S]
+    ensures { result.now ≡ drop 1 words.now }
+{
+    words.get(1..).unwrap_or(&[])
+}
+
+fn is_option(word: &str) -> bool
+    ensures { result ≡ is_option word.now }
+{
+    word.as_bytes().starts_with(b"--")
+}
+
 // The first word that has another character than digits, or else the last word: then the number of digits is odd.
 fn faulty_word<S: AsStr>(words: &[S]) -> &str {
     let mut last = "";
-    for word in words.iter().skip(1) {
+    for word in arguments(words) {
         let word = word.as_str();
-        if !word.starts_with("--") {
+        if !is_option(word) {
             last = word;
             if !is_hexadecimal(word) {
                 break;

@@ -1,5 +1,7 @@
-ghost use Rattle.std.specs.Prelude.{◌≡◌};
+ghost use Rattle.std.specs.Prelude.{◌≡◌, IfOk, is_none, map};
 ghost use Rattle.cli_commands.specs.Explaining.Results.{Explains, script_result};
+ghost use Rattle.cli_commands.specs.Explaining.Rows.{first_faulty};
+ghost use Rattle.text_script.specs.Script.{row_asks, rows};
 
 use crate::explaining::LineText;
 use crate::files::Files;
@@ -8,7 +10,7 @@ use crate::output::flushed;
 use crate::picture::print_picture;
 use crate::script_faults::row_fault;
 use rbc_line::{Line, LineFault};
-use std::alloc::Global;
+use std::alloc::{AllocError, Global};
 use std::io;
 use std::io::Write;
 use text_script::script::is_kept;
@@ -66,16 +68,37 @@ fn print_row_faults<W: Write>(
     out: &mut W,
     line: &Line,
     text: &str,
-) -> Result<Option<usize>, Fault<'static>> {
+) -> Result<Option<usize>, Fault<'static>>
+    ensures { IfOk result (λ first. first ≡ first_faulty line.now 1 (rows text.now)) }
+{
+    let rows = rows_of(alloc, text)?;
+    print_faults_of(alloc, out, line, &rows)
+}
+
+// The lines of a script.
+fn rows_of<'a>(alloc: Global, text: &'a str) -> Result<Vec<&'a str>, AllocError>
+    ensures { IfOk result (λ found. map (λ row. row.now) found.items ≡ rows text.entry.now) }
+{
+    text.split('\n').collect(alloc)
+}
+
+// Prints the fault of each of these lines, or the number of their events. The result is the first faulty line.
+fn print_faults_of<W: Write>(
+    alloc: Global,
+    out: &mut W,
+    line: &Line,
+    rows: &[&str],
+) -> Result<Option<usize>, Fault<'static>>
+    ensures { IfOk result (λ first. first ≡ first_faulty line.now 1 (map (λ row. row.now) rows.now)) }
+{
     let mut first = None;
     let mut good = 0usize;
-    for (k, row) in text.split('\n').enumerate() {
+    for (k, row) in rows.iter().enumerate() {
         if !is_kept(row) {
             continue;
         }
-        let number = k.saturating_add(1);
-        if print_row_fault(alloc, out, line, number, row)? {
-            first = first.or(Some(number));
+        if print_row_fault(alloc, out, line, k + 1, row)? {
+            first = first.or(Some(k + 1));
         } else {
             good = good.saturating_add(1);
         }
@@ -93,7 +116,9 @@ fn print_row_fault<W: Write>(
     line: &Line,
     number: usize,
     row: &str,
-) -> Result<bool, Fault<'static>> {
+) -> Result<bool, Fault<'static>>
+    ensures { IfOk result (λ has_fault. has_fault ≡ is_none (row_asks line.now row.now)) }
+{
     let Some(fault) = row_fault(alloc, line, row)? else {
         return Ok(false);
     };

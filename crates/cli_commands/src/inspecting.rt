@@ -3,6 +3,7 @@
 //! Bodies are free. docs/FORMATS.md fixes the printed text and each exit status.
 
 mod finding;
+mod homes;
 mod inspect;
 mod inspection;
 

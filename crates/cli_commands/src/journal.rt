@@ -2,7 +2,7 @@
 
 ghost use Rattle.std.specs.Prelude.{◌++◌, ◌<◌, ◌≡◌, codes, IfErr, IfOk, is_some, length, None, OnOk};
 ghost use Rattle.std.specs.Prelude.{option_map, string_bytes};
-ghost use Rattle.cli_commands.specs.Journals.{IsFaultOf, IsUnfit, is_of_known_version};
+ghost use Rattle.cli_commands.specs.Journals.{IsFaultOf, IsUnfit, is_of_known_version, lack_of};
 ghost use Rattle.text_journal.specs.Order.{IsFirstFallen, stamps_of};
 ghost use Rattle.text_journal.specs.Whole.{AreWhole};
 ghost use Rattle.text_script.specs.declared.status.fault.Fault.TheVariants.{NoJournal};
@@ -306,12 +306,19 @@ fn fault_of(
         JournalFault::Damaged(row) => Ok(Fault::Damaged { journal, row }),
         JournalFault::Foreign if is_of_known_version(bytes) => Ok(Fault::Foreign(journal)),
         JournalFault::Foreign => {
-            let lack = if bytes.starts_with(b"journal ") {
-                "it has another version than 1 and 2"
-            } else {
-                "it is not a journal"
-            };
+            let lack = lack_of(bytes);
             Ok(Fault::NoJournal(format!(in alloc; "{journal}: {lack}")?))
         }
+    }
+}
+
+// The reason why bytes that do not begin as a journal of a known version are not a journal.
+fn lack_of(bytes: &[u8]) -> &'static str
+    ensures { result.now ≡ lack_of bytes.now }
+{
+    if bytes.starts_with(b"journal ") {
+        "it has another version than 1 and 2"
+    } else {
+        "it is not a journal"
     }
 }

@@ -1,5 +1,8 @@
 //! The known name that is most like a misspelt one.
 
+ghost use Rattle.std.specs.Prelude.{◌↔◌, ◌≡◌, IfOk, IsTrue, map, option_map};
+ghost use Rattle.cli_commands.specs.Nearest.{IsLike, IsNearest};
+
 use rbc_line::Line;
 use std::alloc::{AllocError, Global};
 use std::fmt;
@@ -26,7 +29,10 @@ pub fn nearest_of(
     alloc: Global,
     word: &str,
     names: &[&'static str],
-) -> Result<Nearest<'static>, AllocError> {
+) -> Result<Nearest<'static>, AllocError>
+    ensures { IfOk result (λ nearest. IsNearest word.now (map (λ name. name.now) names.now)
+        (option_map (λ name. name.now) nearest.0)) }
+{
     for name in names {
         if is_like(alloc, word, name)? {
             return Ok(Nearest(Some(name)));
@@ -52,7 +58,9 @@ pub fn nearest_centre<'a>(
 }
 
 // Whether two names differ in upper and lower case only, or in at most a third of the letters.
-fn is_like(alloc: Global, word: &str, name: &str) -> Result<bool, AllocError> {
+fn is_like(alloc: Global, word: &str, name: &str) -> Result<bool, AllocError>
+    ensures { IfOk result (λ is_like. IsTrue is_like ↔ IsLike word.now name.now) }
+{
     if word.eq_ignore_ascii_case(name) {
         return Ok(true);
     }

@@ -1,8 +1,9 @@
 //! The reason why a line of a script is refused.
 
-ghost use Rattle.std.specs.Prelude.{◌≡◌, ◌↔◌, IfOk, IsSome, None, option_map};
+ghost use Rattle.std.specs.Prelude.{◌≡◌, ◌↔◌, IfOk, IsSome, IsTrue, None, option_map};
 ghost use Rattle.cli_commands.specs.Forms.{form_of};
-ghost use Rattle.cli_commands.specs.RowFaults.{centre_at, IsByForm, IsByCentre};
+ghost use Rattle.cli_commands.specs.RowFaults.{centre_at, HasBlank, HasOuterBlank, IsByBlanks, IsByBytes, IsByCentre};
+ghost use Rattle.cli_commands.specs.RowFaults.{IsByForm, PutsBlanksFirst};
 ghost use Rattle.cli_commands.specs.declared.script_faults.RowFault.{RowFault as Why};
 ghost use Rattle.cli_commands.specs.declared.script_faults.RowFault.TheVariants.{Frame};
 ghost use Rattle.text_script.specs.Script.{row_asks};
@@ -61,7 +62,9 @@ pub fn row_fault<'a>(
 }
 
 // The reason why this refused line is refused.
-fn fault_of<'a>(alloc: Global, line: &'a Line, row: &'a str) -> Result<RowFault<'a>, AllocError> {
+fn fault_of<'a>(alloc: Global, line: &'a Line, row: &'a str) -> Result<RowFault<'a>, AllocError>
+    ensures { IfOk result (PutsBlanksFirst row.now) }
+{
     match fault_of_blanks(row) {
         Some(fault) => Ok(fault),
         None => fault_of_words(alloc, line, row),
@@ -69,7 +72,9 @@ fn fault_of<'a>(alloc: Global, line: &'a Line, row: &'a str) -> Result<RowFault<
 }
 
 // The first character that no line of a script has, or the blanks that none has.
-fn fault_of_blanks<'a>(row: &str) -> Option<RowFault<'a>> {
+fn fault_of_blanks<'a>(row: &str) -> Option<RowFault<'a>>
+    ensures { IsByBlanks row.now result }
+{
     if row.contains('\r') {
         Some(RowFault::CarriageReturn)
     } else if row.contains('\t') {
@@ -78,11 +83,25 @@ fn fault_of_blanks<'a>(row: &str) -> Option<RowFault<'a>> {
         Some(RowFault::Printed)
     } else if row.contains(" #") {
         Some(RowFault::Comment)
-    } else if row.starts_with(' ') || row.ends_with(' ') || row.contains("  ") {
+    } else if has_blank(row) {
         Some(RowFault::Blank)
     } else {
         None
     }
+}
+
+// Whether a line has a blank too many.
+fn has_blank(row: &str) -> bool
+    ensures { IsTrue result ↔ HasBlank row.now }
+{
+    has_outer_blank(row) || row.contains("  ")
+}
+
+// Whether a blank begins or ends the line.
+fn has_outer_blank(row: &str) -> bool
+    ensures { IsTrue result ↔ HasOuterBlank row.now }
+{
+    row.starts_with(' ') || row.ends_with(' ')
 }
 
 fn fault_of_words<'a>(
@@ -141,7 +160,9 @@ fn fault_at_centre<'a>(
     Ok(RowFault::Centre(centre, nearest_centre(alloc, line, centre)?))
 }
 
-fn fault_of_bytes(digits: &str) -> RowFault<'_> {
+fn fault_of_bytes(digits: &str) -> RowFault<'_>
+    ensures { IsByBytes digits.now result }
+{
     if digits.bytes().all(|digit| digit.is_ascii_hexdigit()) {
         RowFault::OddDigits(digits.len())
     } else {

@@ -1,8 +1,8 @@
 //! The options that are times.
 
-ghost use Rattle.std.specs.Prelude.{◌≡◌, None, codes};
-ghost use Rattle.cli_commands.specs.Times.{axis};
-ghost use Rattle.cli_commands.specs.Words.{value};
+ghost use Rattle.std.specs.Prelude.{◌≡◌, Bool, codes, option_and_then};
+ghost use Rattle.cli_commands.specs.Times.{axis, range_in, since_1970, spelled_ms};
+ghost use Rattle.cli_commands.specs.Words.{IsFlag, value};
 
 use crate::requests::TimeRange;
 use clap::ArgMatches;
@@ -10,8 +10,7 @@ use jiff::Timestamp;
 
 /// The range of `--since` and `--until`.
 pub fn range_of(words: &ArgMatches<'_>) -> TimeRange
-    ensures since { value words.now (codes "since") ≡ None → result.since_ms ≡ None }
-    ensures until { value words.now (codes "until") ≡ None → result.until_ms ≡ None }
+    ensures { result ≡ range_in words.now }
 {
     TimeRange {
         since_ms: time_of(words, "since"),
@@ -20,7 +19,10 @@ pub fn range_of(words: &ArgMatches<'_>) -> TimeRange
 }
 
 /// The range that `picture` draws over time; none if it draws events by their numbers.
-pub fn axis_of(words: &ArgMatches<'_>) -> Option<TimeRange> {
+pub fn axis_of(words: &ArgMatches<'_>) -> Option<TimeRange>
+    ensures { (is_asked : Bool) × IsFlag words.now (codes "time") is_asked
+        × (result ≡ axis is_asked (range_in words.now)) }
+{
     axis(words.get_flag("time"), range_of(words))
 }
 
@@ -35,10 +37,24 @@ fn axis(is_asked: bool, range: TimeRange) -> Option<TimeRange>
     }
 }
 
-// The time of the option of this name, in milliseconds since 1970. It is 0 for an earlier time.
+// The time of the option of this name.
 fn time_of(words: &ArgMatches<'_>, name: &str) -> Option<u64>
-    ensures { value words.now name.now ≡ None → result ≡ None }
+    ensures { result ≡ option_and_then spelled_ms (value words.now name.now) }
 {
-    let time: Timestamp = words.get_str(name)?.parse().ok()?;
-    Some(u64::try_from(time.as_millisecond()).unwrap_or(0))
+    spelled_ms(words.get_str(name)?)
+}
+
+// The time that a text spells, in milliseconds since 1970.
+fn spelled_ms(text: &str) -> Option<u64>
+    ensures { result ≡ spelled_ms text.now }
+{
+    let time: Timestamp = text.parse().ok()?;
+    Some(since_1970(time.as_millisecond()))
+}
+
+// 0 for a time before 1970.
+fn since_1970(ms: i64) -> u64
+    ensures { result ≡ since_1970 ms }
+{
+    u64::try_from(ms).unwrap_or(0)
 }

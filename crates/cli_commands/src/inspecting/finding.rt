@@ -1,5 +1,9 @@
 //! The faults of a line file, and their places, for the person who corrects it.
 
+ghost use Rattle.std.specs.Fmt.{DisplaysOnOk};
+ghost use Rattle.cli_commands.specs.Inspecting.Texts.{conflict_text, detail_text, finding_text, flaw_text, place_text};
+ghost use Rattle.cli_commands.specs.Inspecting.Texts.{value_text};
+
 use rbc_line::LineFault;
 use std::fmt;
 use std::fmt::Formatter;
@@ -177,12 +181,16 @@ impl Finding<'_> {
 }
 
 impl fmt::Display for Finding<'_> {
+    ghost output = { finding_text };
+
     fn fmt<W: fmt::Write>(&self, f: &mut Formatter<W>) -> fmt::Result {
         write!(f, "{}: {}", self.place, self.flaw)
     }
 }
 
 impl fmt::Display for Place<'_> {
+    ghost output = { place_text };
+
     fn fmt<W: fmt::Write>(&self, f: &mut Formatter<W>) -> fmt::Result {
         let (what, number) = match self {
             Place::File => return f.write_str("file"),
@@ -197,7 +205,9 @@ impl fmt::Display for Place<'_> {
 }
 
 /// Prints the name, the track or the engine of a place, if the file has it.
-fn write_detail<W: fmt::Write>(f: &mut Formatter<W>, place: Place<'_>) -> fmt::Result {
+fn write_detail<W: fmt::Write>(f: &mut Formatter<W>, place: Place<'_>) -> fmt::Result
+    ensures { DisplaysOnOk W.write_str_gives f.old result (detail_text place.entry) f.new }
+{
     match place {
         Place::Centre {
             name: Some(name),
@@ -220,6 +230,8 @@ fn write_detail<W: fmt::Write>(f: &mut Formatter<W>, place: Place<'_>) -> fmt::R
 }
 
 impl fmt::Display for Flaw<'_> {
+    ghost output = { flaw_text };
+
     fn fmt<W: fmt::Write>(&self, f: &mut Formatter<W>) -> fmt::Result {
         match self {
             Flaw::Missing { key } => write!(f, "key {key} is missing"),
@@ -235,7 +247,9 @@ impl fmt::Display for Flaw<'_> {
 }
 
 /// Prints values out of their bounds, and the flaws that `write_conflict` prints.
-fn write_value<W: fmt::Write>(f: &mut Formatter<W>, flaw: Flaw<'_>) -> fmt::Result {
+fn write_value<W: fmt::Write>(f: &mut Formatter<W>, flaw: Flaw<'_>) -> fmt::Result
+    ensures { DisplaysOnOk W.write_str_gives f.old result (value_text flaw.entry) f.new }
+{
     match flaw {
         Flaw::Count { counted, count } => {
             let (low, high) = counted.limits();
@@ -254,7 +268,9 @@ fn write_value<W: fmt::Write>(f: &mut Formatter<W>, flaw: Flaw<'_>) -> fmt::Resu
 }
 
 /// Prints values that conflict with the rest of the file, and a flaw that was not found.
-fn write_conflict<W: fmt::Write>(f: &mut Formatter<W>, flaw: Flaw<'_>) -> fmt::Result {
+fn write_conflict<W: fmt::Write>(f: &mut Formatter<W>, flaw: Flaw<'_>) -> fmt::Result
+    ensures { DisplaysOnOk W.write_str_gives f.old result (conflict_text flaw.entry) f.new }
+{
     match flaw {
         Flaw::NameTwice { name, first } => write!(f, "name {name:?} is that of {first} too"),
         Flaw::NumberTwice { key, value, first } => {

@@ -1,28 +1,14 @@
 //! Walks through the tables of a line file once, and notes all faults, table by table.
+
+ghost use Rattle.std.specs.Prelude.{OnOk};
+ghost use Rattle.cli_commands.specs.Inspecting.Notes.{Grows};
+
 use crate::inspecting::finding::{Counted, Finding, Flaw, Place};
+use crate::inspecting::homes::Homes;
 use crate::inspecting::inspection::{Inspection, first_place};
 use std::alloc::{AllocError, Global};
-use std::collections::HashSet;
 use toml::value::Array;
 use toml::{Table, Value};
-
-/// The homes along one track so far.
-#[derive(Drop)]
-struct Homes<'a> {
-    begun: HashSet<&'a str>,
-    last: Option<&'a str>,
-}
-
-impl<'a> Homes<'a> {
-    /// Adds a section of this home. Returns whether the home appears again, after another home.
-    fn comes_again(&mut self, home: &'a str) -> Result<bool, AllocError> {
-        if self.last == Some(home) {
-            return Ok(false);
-        }
-        self.last = Some(home);
-        Ok(!self.begun.insert(home)?)
-    }
-}
 
 /// Finds all faults in the tables of a text as a line file, in the order of the walk: within a table its keys, then
 /// its content. A value that is missing or of another type is not tested further.
@@ -33,7 +19,10 @@ pub fn cases_in(alloc: Global, table: &Table) -> Result<Vec<Finding<'_>>, AllocE
 }
 
 impl<'a> Inspection<'a> {
-    fn file(&mut self, alloc: Global, table: &'a Table) -> Result<(), AllocError> {
+    #[tactic(auto, using(crate::proofs::InspectingLemmas::grown))]
+    fn file(&mut self, alloc: Global, table: &'a Table) -> Result<(), AllocError>
+        ensures grows { OnOk result (Grows self.old self.new) }
+    {
         let file = Place::File;
         self.keys(file, table, &["nid_c", "centre", "track", "train"])?;
         self.number(file, table, "nid_c", 1023)?;
@@ -42,7 +31,10 @@ impl<'a> Inspection<'a> {
         self.trains(table)
     }
 
-    fn centres(&mut self, file: &'a Table) -> Result<(), AllocError> {
+    #[tactic(auto, using(crate::proofs::InspectingLemmas::grown))]
+    fn centres(&mut self, file: &'a Table) -> Result<(), AllocError>
+        ensures grows { OnOk result (Grows self.old self.new) }
+    {
         let Some(centres) = self.array(Place::File, file, "centre")? else {
             return Ok(());
         };
@@ -54,7 +46,10 @@ impl<'a> Inspection<'a> {
         Ok(())
     }
 
-    fn centre(&mut self, number: usize, centre: &'a Value) -> Result<(), AllocError> {
+    #[tactic(auto, using(crate::proofs::InspectingLemmas::grown))]
+    fn centre(&mut self, number: usize, centre: &'a Value) -> Result<(), AllocError>
+        ensures grows { OnOk result (Grows self.old self.new) }
+    {
         let name = name_in(centre);
         let place = Place::Centre { number, name };
         match self.table(place, centre, &["name", "nid_rbc"])? {
@@ -63,28 +58,46 @@ impl<'a> Inspection<'a> {
         }
     }
 
-    fn centre_table(&mut self, place: Place<'a>, table: &'a Table) -> Result<(), AllocError> {
+    #[tactic(auto, using(crate::proofs::InspectingLemmas::grown))]
+    fn centre_table(&mut self, place: Place<'a>, table: &'a Table) -> Result<(), AllocError>
+        ensures grows { OnOk result (Grows self.old self.new) }
+    {
+        self.own_name(place, table)?;
+        self.own_number(place, table, "nid_rbc", 16382)
+    }
+
+    /// The name of a centre, which no other centre has.
+    #[tactic(auto, using(crate::proofs::InspectingLemmas::grown))]
+    fn own_name(&mut self, place: Place<'a>, table: &'a Table) -> Result<(), AllocError>
+        ensures grows { OnOk result (Grows self.old self.new) }
+    {
         if let Some(name) = self.name(place, table)? {
             let first = first_place(&mut self.centre_names, name, place)?;
             self.note_twice(place, name, first)?;
         }
-        self.own_number(place, table, "nid_rbc", 16382)
+        Ok(())
     }
 
     /// Notes a name that appeared before, at the first place.
+    #[tactic(auto, using(crate::proofs::InspectingLemmas::grown))]
     fn note_twice(
         &mut self,
         place: Place<'a>,
         name: &'a str,
         first: Option<Place<'a>>,
-    ) -> Result<(), AllocError> {
+    ) -> Result<(), AllocError>
+        ensures grows { OnOk result (Grows self.old self.new) }
+    {
         match first {
             Some(first) => self.note(place, Flaw::NameTwice { name, first }),
             None => Ok(()),
         }
     }
 
-    fn tracks(&mut self, alloc: Global, file: &'a Table) -> Result<(), AllocError> {
+    #[tactic(auto, using(crate::proofs::InspectingLemmas::grown))]
+    fn tracks(&mut self, alloc: Global, file: &'a Table) -> Result<(), AllocError>
+        ensures grows { OnOk result (Grows self.old self.new) }
+    {
         let Some(tracks) = self.array(Place::File, file, "track")? else {
             return Ok(());
         };
@@ -101,13 +114,16 @@ impl<'a> Inspection<'a> {
     }
 
     /// Tests a track whose first section has this number. Returns the number of the section after the track.
+    #[tactic(auto, using(crate::proofs::InspectingLemmas::grown))]
     fn track(
         &mut self,
         alloc: Global,
         number: usize,
         sections: usize,
         track: &'a Value,
-    ) -> Result<usize, AllocError> {
+    ) -> Result<usize, AllocError>
+        ensures grows { OnOk result (Grows self.old self.new) }
+    {
         let place = Place::Track {
             number,
             name: name_in(track),
@@ -123,11 +139,14 @@ impl<'a> Inspection<'a> {
     }
 
     /// The sections of a track. It must have one.
+    #[tactic(auto, using(crate::proofs::InspectingLemmas::grown))]
     fn track_sections(
         &mut self,
         place: Place<'a>,
         table: &'a Table,
-    ) -> Result<Option<&'a Array>, AllocError> {
+    ) -> Result<Option<&'a Array>, AllocError>
+        ensures grows { OnOk result (Grows self.old self.new) }
+    {
         let sections = self.array(place, table, "section")?;
         if let Some(items) = sections
             && items.is_empty()
@@ -137,11 +156,14 @@ impl<'a> Inspection<'a> {
         Ok(sections)
     }
 
+    #[tactic(auto, using(crate::proofs::InspectingLemmas::grown))]
     fn track_name(
         &mut self,
         place: Place<'a>,
         table: &'a Table,
-    ) -> Result<Option<&'a str>, AllocError> {
+    ) -> Result<Option<&'a str>, AllocError>
+        ensures grows { OnOk result (Grows self.old self.new) }
+    {
         let name = self.name(place, table)?;
         if let Some(name) = name {
             let first = first_place(&mut self.track_names, name, place)?;
@@ -150,18 +172,18 @@ impl<'a> Inspection<'a> {
         Ok(name)
     }
 
+    #[tactic(auto, using(crate::proofs::InspectingLemmas::grown))]
     fn sections(
         &mut self,
         alloc: Global,
         track: Option<&'a str>,
         first: usize,
         sections: &'a Array,
-    ) -> Result<usize, AllocError> {
+    ) -> Result<usize, AllocError>
+        ensures grows { OnOk result (Grows self.old self.new) }
+    {
         let mut number = first;
-        let mut homes = Homes {
-            begun: HashSet::new(alloc),
-            last: None,
-        };
+        let mut homes = Homes::new(alloc);
         for section in sections {
             self.section_of_track(Place::Section { number, track }, section, &mut homes)?;
             number = number.saturating_add(1);
@@ -170,12 +192,15 @@ impl<'a> Inspection<'a> {
     }
 
     /// Tests a section after those with these homes on its track.
+    #[tactic(auto, using(crate::proofs::InspectingLemmas::grown))]
     fn section_of_track(
         &mut self,
         place: Place<'a>,
         section: &'a Value,
         homes: &mut Homes<'a>,
-    ) -> Result<(), AllocError> {
+    ) -> Result<(), AllocError>
+        ensures grows { OnOk result (Grows self.old self.new) }
+    {
         if let Some(home) = self.section(place, section)?
             && homes.comes_again(home)?
         {
@@ -185,11 +210,14 @@ impl<'a> Inspection<'a> {
     }
 
     /// Tests a section. Returns its home, if it has one.
+    #[tactic(auto, using(crate::proofs::InspectingLemmas::grown))]
     fn section(
         &mut self,
         place: Place<'a>,
         section: &'a Value,
-    ) -> Result<Option<&'a str>, AllocError> {
+    ) -> Result<Option<&'a str>, AllocError>
+        ensures grows { OnOk result (Grows self.old self.new) }
+    {
         let Some(table) = self.table(place, section, &["length", "home", "balise"])? else {
             return Ok(None);
         };
@@ -199,7 +227,10 @@ impl<'a> Inspection<'a> {
         Ok(home)
     }
 
-    fn trains(&mut self, file: &'a Table) -> Result<(), AllocError> {
+    #[tactic(auto, using(crate::proofs::InspectingLemmas::grown))]
+    fn trains(&mut self, file: &'a Table) -> Result<(), AllocError>
+        ensures grows { OnOk result (Grows self.old self.new) }
+    {
         let Some(trains) = self.array(Place::File, file, "train")? else {
             return Ok(());
         };
@@ -210,7 +241,10 @@ impl<'a> Inspection<'a> {
         Ok(())
     }
 
-    fn train(&mut self, number: usize, train: &'a Value) -> Result<(), AllocError> {
+    #[tactic(auto, using(crate::proofs::InspectingLemmas::grown))]
+    fn train(&mut self, number: usize, train: &'a Value) -> Result<(), AllocError>
+        ensures grows { OnOk result (Grows self.old self.new) }
+    {
         let engine = engine_in(train);
         let place = Place::Train { number, engine };
         let Some(table) = self.table(place, train, &["engine", "registrar"])? else {
@@ -222,12 +256,15 @@ impl<'a> Inspection<'a> {
     }
 
     /// The name of a centre of the file.
+    #[tactic(auto, using(crate::proofs::InspectingLemmas::grown))]
     fn centre_name(
         &mut self,
         place: Place<'a>,
         table: &'a Table,
         key: &'static str,
-    ) -> Result<Option<&'a str>, AllocError> {
+    ) -> Result<Option<&'a str>, AllocError>
+        ensures grows { OnOk result (Grows self.old self.new) }
+    {
         let text = self.text(place, table, key)?;
         if let Some(name) = text {
             if self.has_centres && !self.centre_names.contains_key(name) {

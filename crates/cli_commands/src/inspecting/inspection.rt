@@ -1,8 +1,11 @@
 //! The findings in a line file so far, and the tests of one table.
 
-ghost use Rattle.std.specs.Prelude.{[], ◌≡◌, ◌∷◌, if◌then◌else◌, IfOk, IfSome, None, OnOk};
+ghost use Rattle.std.specs.Prelude.{[], ◌≡◌, ◌∷◌, codes, if◌then◌else◌, IfOk, MatchOption, OnOk, option_map};
+ghost use Rattle.rbc_line.specs.LineFile.{at as value_of};
+ghost use Rattle.toml.specs.Data.{as_array, as_integer, as_str};
+ghost use Rattle.toml.specs.View.{array_view, table_view, view};
 ghost use Rattle.cli_commands.specs.Inspecting.Findings.{limits};
-ghost use Rattle.cli_commands.specs.Inspecting.Notes.{Adds, AddsOne};
+ghost use Rattle.cli_commands.specs.Inspecting.Notes.{Adds, AddsLack, Grows, value_at};
 ghost use Rattle.cli_commands.specs.declared.inspecting.finding.Flaw.TheVariants as flaw;
 ghost use Rattle.cli_commands.specs.declared.inspecting.finding.Place.TheVariants as at;
 ghost use Rattle.rbc_line.specs.Faults.{has_count_fault, is_name, is_outside};
@@ -28,7 +31,9 @@ pub(crate) struct Inspection<'a> {
 }
 
 impl<'a> Inspection<'a> {
-    pub(crate) fn new(alloc: Global) -> Inspection<'a> {
+    pub(crate) fn new(alloc: Global) -> Inspection<'a>
+        ensures { result.findings.items ≡ [] }
+    {
         Inspection {
             findings: Vec::new(alloc),
             has_centres: false,
@@ -46,12 +51,15 @@ impl<'a> Inspection<'a> {
     }
 
     /// The table that is required at this place, with no keys other than these.
+    #[tactic(auto, using(crate::proofs::InspectingLemmas::grown))]
     pub(crate) fn table(
         &mut self,
         place: Place<'a>,
         value: &'a Value,
         keys: &[&'a str],
-    ) -> Result<Option<&'a Table>, AllocError> {
+    ) -> Result<Option<&'a Table>, AllocError>
+        ensures grows { OnOk result (Grows self.old self.new) }
+    {
         let Some(table) = value.as_table() else {
             let found = value.type_str();
             self.note(place, Flaw::NoTable { found })?;
@@ -62,12 +70,15 @@ impl<'a> Inspection<'a> {
     }
 
     /// Notes the keys of a table other than these.
+    #[tactic(auto, using(crate::proofs::InspectingLemmas::grown))]
     pub(crate) fn keys(
         &mut self,
         place: Place<'a>,
         table: &'a Table,
         keys: &[&'a str],
-    ) -> Result<(), AllocError> {
+    ) -> Result<(), AllocError>
+        ensures grows { OnOk result (Grows self.old self.new) }
+    {
         for key in table.keys() {
             let key = key.as_str();
             if !keys.contains(&key) {
@@ -85,8 +96,10 @@ impl<'a> Inspection<'a> {
         key: &'static str,
         wanted: &'static str,
     ) -> Result<Option<&'a Value>, AllocError>
-        ensures found { IfOk result (λ value. IfSome value (λ _. Adds self.old self.new [])) }
-        ensures missing { IfOk result (λ value. value ≡ None → AddsOne self.old self.new place.entry) }
+        ensures value { IfOk result (λ value. option_map (λ v. view v.now) value
+            ≡ value_at wanted.now key.now (table_view table.now)) }
+        ensures noted { IfOk result (λ value. MatchOption value
+            (AddsLack self.old self.new place.entry key.now wanted.now) (λ _. Adds self.old self.new [])) }
     {
         let flaw = match table.get(key) {
             Some(value) if value.type_str() == wanted => return Ok(Some(value)),
@@ -106,7 +119,9 @@ impl<'a> Inspection<'a> {
         table: &'a Table,
         key: &'static str,
     ) -> Result<Option<i64>, AllocError>
-        ensures { IfOk result (λ number. IfSome number (λ _. Adds self.old self.new [])) }
+        ensures value { IfOk result (λ number. number ≡ value_of as_integer key.now (table_view table.now)) }
+        ensures noted { IfOk result (λ number. MatchOption number
+            (AddsLack self.old self.new place.entry key.now (codes "integer")) (λ _. Adds self.old self.new [])) }
     {
         match self.value(place, table, key, "integer")? {
             Some(value) => Ok(value.as_integer()),
@@ -120,7 +135,10 @@ impl<'a> Inspection<'a> {
         table: &'a Table,
         key: &'static str,
     ) -> Result<Option<&'a str>, AllocError>
-        ensures { IfOk result (λ text. IfSome text (λ _. Adds self.old self.new [])) }
+        ensures value { IfOk result
+            (λ text. option_map (λ t. t.now) text ≡ value_of as_str key.now (table_view table.now)) }
+        ensures noted { IfOk result (λ text. MatchOption text
+            (AddsLack self.old self.new place.entry key.now (codes "string")) (λ _. Adds self.old self.new [])) }
     {
         match self.value(place, table, key, "string")? {
             Some(value) => Ok(value.as_str()),
@@ -134,7 +152,10 @@ impl<'a> Inspection<'a> {
         table: &'a Table,
         key: &'static str,
     ) -> Result<Option<&'a Array>, AllocError>
-        ensures { IfOk result (λ array. IfSome array (λ _. Adds self.old self.new [])) }
+        ensures value { IfOk result (λ array. option_map (λ a. array_view a.now) array
+            ≡ value_of as_array key.now (table_view table.now)) }
+        ensures noted { IfOk result (λ array. MatchOption array
+            (AddsLack self.old self.new place.entry key.now (codes "array")) (λ _. Adds self.old self.new [])) }
     {
         match self.value(place, table, key, "array")? {
             Some(value) => Ok(value.as_array()),
@@ -150,7 +171,9 @@ impl<'a> Inspection<'a> {
         key: &'static str,
         highest: u32,
     ) -> Result<Option<i64>, AllocError>
-        ensures { IfOk result (λ number. IfSome number (λ value. Adds self.old self.new
+        ensures value { IfOk result (λ number. number ≡ value_of as_integer key.now (table_view table.now)) }
+        ensures noted { IfOk result (λ number. MatchOption number
+            (AddsLack self.old self.new place.entry key.now (codes "integer")) (λ value. Adds self.old self.new
             (if is_outside 0 highest value
             then record { place = place.entry; flaw = flaw.Number key.entry value highest } ∷ [] else []))) }
     {
@@ -171,13 +194,16 @@ impl<'a> Inspection<'a> {
     }
 
     /// A number from 0 to the highest that is unique for this key.
+    #[tactic(auto, using(crate::proofs::InspectingLemmas::grown))]
     pub(crate) fn own_number(
         &mut self,
         place: Place<'a>,
         table: &'a Table,
         key: &'static str,
         highest: u32,
-    ) -> Result<(), AllocError> {
+    ) -> Result<(), AllocError>
+        ensures grows { OnOk result (Grows self.old self.new) }
+    {
         if let Some(value) = self.number(place, table, key, highest)? {
             if let Some(first) = first_place(&mut self.numbers, (key, value), place)? {
                 self.note(place, Flaw::NumberTwice { key, value, first })?;
@@ -192,7 +218,10 @@ impl<'a> Inspection<'a> {
         place: Place<'a>,
         table: &'a Table,
     ) -> Result<Option<&'a str>, AllocError>
-        ensures { IfOk result (λ text. IfSome text (λ name. Adds self.old self.new
+        ensures value { IfOk result
+            (λ text. option_map (λ t. t.now) text ≡ value_of as_str (codes "name") (table_view table.now)) }
+        ensures noted { IfOk result (λ text. MatchOption text
+            (AddsLack self.old self.new place.entry (codes "name") (codes "string")) (λ name. Adds self.old self.new
             (if is_name name.now then [] else record { place = place.entry; flaw = flaw.Name name } ∷ []))) }
     {
         let text = self.text(place, table, "name")?;
@@ -205,7 +234,12 @@ impl<'a> Inspection<'a> {
     }
 
     /// The length of a section.
-    pub(crate) fn length(&mut self, place: Place<'a>, table: &'a Table) -> Result<(), AllocError> {
+    pub(crate) fn length(&mut self, place: Place<'a>, table: &'a Table) -> Result<(), AllocError>
+        ensures { OnOk result (MatchOption (value_of as_integer (codes "length") (table_view table.now))
+            (AddsLack self.old self.new place.entry (codes "length") (codes "integer"))
+            (λ metres. Adds self.old self.new (if is_outside 100 2000 metres
+            then record { place = place.entry; flaw = flaw.Length metres } ∷ [] else []))) }
+    {
         if let Some(metres) = self.integer(place, table, "length")? {
             if is_outside(100, 2000, metres) {
                 self.note(place, Flaw::Length { metres })?;
