@@ -1,17 +1,24 @@
 -- The answers of std's searches in a text, as facts of its bytes.
-use Rattle.std.proofs.Common.{[], ◌++◌, ◌-◌, ◌<◌, ◌∙◌, ◌∷◌, ◌≡◌, ap, append-nil, arith, drop, get_or}
-use Rattle.std.proofs.Common.{◌↔◌, ◌⊎◌, ⊎_elim, Bool, Err, false, IfOk, inr, IsTrue, length, length-append, List}
-use Rattle.std.proofs.Common.{MatchBool, None, Ok, refl, Result, sym, take, take-append-drop, true, ℕ}
+use denote.Ref.{Bor}
+use Rattle.rbc_spec.specs.Line.{Line}
+use Rattle.std.specs.List.{slice_split}
+use Rattle.std.proofs.Common.{[], ◌++◌, ◌-◌, ◌<◌, ◌==◌, ◌≤◌, ◌∙◌, ◌∷◌, ◌≡◌, ap, append-nil, arith, bytes_eq, codes}
+use Rattle.std.proofs.Common.{◌↔◌, ◌⊎◌, ⊎_elim, Bool, drop, Err, false, get_or, IfOk, inr, IsTrue, length}
+use Rattle.std.proofs.Common.{length-append, List, map, MatchBool, None, Ok, refl, Result, sym, take}
+use Rattle.std.proofs.Common.{take-append-drop, true, ℕ}
 use Rattle.std.proofs.lemmas.Bool.{true≢false}
 use lib.Utf8.{encode}
 use lib.Seq.{get_or-append_seam}
 use Rattle.std.proofs.Transfers.{drop-appended}
+use Rattle.std.proofs.lemmas.Slice.Eq.{bytes_eq-Decides}
 use Rattle.std.proofs.lemmas.Str.Pattern.{NoCharPasses-char}
 use Rattle.std.specs.Char.{encode_utf8}
 use Rattle.std.specs.Str.Pattern.{FindsChar, FindsCharPrefix, FindsCharSuffix, FindsText, FindsTextPrefix, HasMatch}
 use Rattle.std.specs.Str.Pattern.{HasPrefixMatch, HasSuffixMatch}
 use Rattle.cli_commands.specs.declared.script_faults.RowFault.{RowFault}
-use Rattle.cli_commands.specs.RowFaults.{Begins, Ends, Holds, IsByBlanks, PutsBlanksFirst}
+use Rattle.cli_commands.specs.Forms.{form_of}
+use Rattle.cli_commands.specs.RowFaults.{Begins, Ends, Holds, IsAtCentre, IsByBlanks, IsByForm, IsByFrame, IsByWords}
+use Rattle.cli_commands.specs.RowFaults.{IsReason}
 
 pub holds_char : (c : ℕ) (text : List ℕ) → encode_utf8 c ≡ c ∷ [] → HasMatch (FindsChar c) text → Holds (c ∷ []) text
 holds_char c text one (i, j, found, on, fits) = (
@@ -98,8 +105,46 @@ pub one_tab : encode_utf8 9 ≡ 9 ∷ []
 unfolding encode
 one_tab = refl
 
--- the characters of the line have no fault, so any other fault may be given
-pub blanks_passed : {E : Type 0} (r : Result RowFault E) (row : List ℕ) → IsByBlanks row None
-    → IfOk r (PutsBlanksFirst row)
-blanks_passed (Ok fault) row none = (None, none, tt)
-blanks_passed (Err why) row none = tt
+-- the characters of the line have no fault, so its fault is that of its words
+pub blanks_passed : {E : Type 0} (r : Result RowFault E) (line : Line) (row : List ℕ) → IsByBlanks row None
+    → IfOk r (IsByWords line (slice_split (λ b. b == 32) row)) → IfOk r (IsReason line row)
+blanks_passed (Ok fault) line row none by = (None, none, by)
+blanks_passed (Err why) line row none by = tt
+
+-- ## The words of a line
+
+-- the fault of a delivery is that of its four words
+pub by_delivery :
+    {E : Type 0} (r : Result RowFault E) (line : Line) (words : List (Bor (List ℕ))) (d : Bor (List ℕ))
+    → 4 ≤ length words → length words < 5 → bytes_eq (get_or words 0 d).now (codes "deliver") ≡ true
+    → IfOk r (IsAtCentre line (get_or words 1 d).now
+    (IsAtCentre line (get_or words 2 d).now (IsByFrame (get_or words 3 d).now)))
+    → IfOk r (IsByWords line (map (λ word. word.now) words))
+by_delivery (Err why) line words d low high is at = tt
+by_delivery (Ok fault) line [] d low high is at = absurd (omega arith)
+by_delivery (Ok fault) line (a ∷ []) d low high is at = absurd (omega arith)
+by_delivery (Ok fault) line (a ∷ b ∷ []) d low high is at = absurd (omega arith)
+by_delivery (Ok fault) line (a ∷ b ∷ c ∷ []) d low high is at = absurd (omega arith)
+by_delivery (Ok fault) line (a ∷ b ∷ c ∷ e ∷ []) d low high is at = record {
+  delivery = λ same. at;
+  other = λ not. absurd (not ((bytes_eq-Decides a.now (codes "deliver")).0 is));
+}
+by_delivery (Ok fault) line (a ∷ b ∷ c ∷ e ∷ f ∷ more) d low high is at = absurd (omega arith)
+
+-- another line has another form than its event has
+pub by_form :
+    {E : Type 0} (r : Result RowFault E) (line : Line) (words : List (Bor (List ℕ))) (d : Bor (List ℕ))
+    → 1 ≤ length words → ¬ (length words ≡ 3)
+    → (length words ≡ 4 → bytes_eq (get_or words 0 d).now (codes "deliver") ≡ false)
+    → IfOk r (IsByForm (form_of (get_or words 0 d).now) (get_or words 0 d).now)
+    → IfOk r (IsByWords line (map (λ word. word.now) words))
+by_form (Err why) line words d some three four by = tt
+by_form (Ok fault) line [] d some three four by = absurd (omega arith)
+by_form (Ok fault) line (a ∷ []) d some three four by = by
+by_form (Ok fault) line (a ∷ b ∷ []) d some three four by = by
+by_form (Ok fault) line (a ∷ b ∷ c ∷ []) d some three four by = absurd (three (omega arith))
+by_form (Ok fault) line (a ∷ b ∷ c ∷ e ∷ []) d some three four by = record {
+  delivery = λ is. absurd (true≢false (sym (ap (λ t. bytes_eq t (codes "deliver")) is) ∙ four (omega arith)));
+  other = λ not. by;
+}
+by_form (Ok fault) line (a ∷ b ∷ c ∷ e ∷ f ∷ more) d some three four by = by

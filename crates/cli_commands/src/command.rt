@@ -112,50 +112,49 @@ fn do_task<'a, F: Files, O: Write, E: Write>(
     match task {
         Task::Script(text) => script_in_words(alloc, &given.line, text, files, out, err),
         Task::Storm { script, seed } => run_storm(alloc, &given.line, script, seed, files, out),
-        Task::Print(listing) => tell_part(print_journals(alloc, given, listing, files, out), err),
-        Task::Audit(printed) => tell_part(audit_printed(alloc, given, printed, files, out), err),
+        Task::Print(listing) => tell_part(print_journals(alloc, given, listing, files, out)?, err),
+        Task::Audit(printed) => tell_part(audit_printed(alloc, given, printed, files, out)?, err),
         Task::Watch(printed) => {
-            let done = watch_printed(alloc, given, printed, files, out, err);
-            note_lack(done, "no event", printed, err)
+            let has_event = watch_printed(alloc, given, printed, files, out, err)?;
+            note_lack(has_event, "no event", printed, err)
         }
         Task::Words(listing) => {
-            let done = tell_printed(alloc, given, listing, files, out);
-            note_words(done, listing, files, err)
+            let has_run = tell_printed(alloc, given, listing, files, out)?;
+            note_words(has_run, listing, files, err)
         }
         Task::Picture(drawing) => {
-            let done = draw_printed(alloc, given, drawing, files, out);
-            note_lack(done, "no event", drawing.printed, err)
+            let has_event = draw_printed(alloc, given, drawing, files, out)?;
+            note_lack(has_event, "no event", drawing.printed, err)
         }
         Task::Capture {
             printed,
             first_port,
         } => {
-            let done = capture_printed(alloc, given, printed, first_port, files, out);
-            note_lack(done, "no message", printed, err)
+            let has_message = capture_printed(alloc, given, printed, first_port, files, out)?;
+            note_lack(has_message, "no message", printed, err)
         }
     }
 }
 
 // Notes after `words` that the print has no times, and that it lacks a run.
-fn note_words<'a, F: Files, E: Write>(
-    done: Result<bool, Fault<'a>>,
-    listing: Listing<'a>,
+fn note_words<F: Files, E: Write>(
+    has_run: bool,
+    listing: Listing<'_>,
     files: &F,
     err: &mut E,
-) -> Result<(), Fault<'a>> {
-    let is_told = done?;
+) -> Result<(), Fault<'static>> {
     note_untimed(&listing, files, err)?;
-    note_lack(Ok(is_told), "nothing of a run", listing.name, err)
+    note_lack(has_run, "nothing of a run", listing.name, err)
 }
 
 // Notes that the file of a print lacks this, unless it has it: perhaps it is another file.
-fn note_lack<'a, E: Write>(
-    has_it: Result<bool, Fault<'a>>,
+fn note_lack<E: Write>(
+    has_it: bool,
     lack: &str,
     printed: &str,
     err: &mut E,
-) -> Result<(), Fault<'a>> {
-    if !has_it? {
+) -> Result<(), Fault<'static>> {
+    if !has_it {
         let note = format_args!(
             "rbcline: {lack} is in {printed}: is it a print of `run` or `serve`?"
         );
@@ -179,11 +178,8 @@ fn note_untimed<F: Files, E: Write>(
 }
 
 // Reports the part of the journals that was read, if a program writes them meanwhile.
-fn tell_part<'a, E: Write>(
-    part: Result<Option<Part>, Fault<'a>>,
-    err: &mut E,
-) -> Result<(), Fault<'a>> {
-    if let Some(part) = part? {
+fn tell_part<E: Write>(part: Option<Part>, err: &mut E) -> Result<(), Fault<'static>> {
+    if let Some(part) = part {
         tell(err, part)?;
     }
     Ok(())

@@ -2,7 +2,8 @@
 
 ghost use Rattle.std.specs.Prelude.{◌-◌, ◌^◌, ◌≡◌, ◌⊎◌, drop, false, if◌then◌else◌, IfErr, IfOk, IsErrOf, map, min, Ok};
 ghost use Rattle.std.specs.Prelude.{OnOk, string_bytes, true};
-ghost use Rattle.cli_commands.specs.DecodeWords.{is_option, joined, plain_count};
+ghost use Rattle.cli_commands.specs.DecodeWords.{faulty_word, has_only_digits, is_hexadecimal, is_option, joined};
+ghost use Rattle.cli_commands.specs.DecodeWords.{plain_count};
 ghost use Rattle.text_fields.specs.declared.print.Form.TheVariants.{Json, Text};
 ghost use Rattle.text_script.specs.Status.Statuses.{status_of};
 ghost use Rattle.text_script.specs.declared.status.fault.Fault.TheVariants.{Differs};
@@ -147,7 +148,9 @@ fn is_option(word: &str) -> bool
 }
 
 // The first word that has another character than digits, or else the last word: then the number of digits is odd.
-fn faulty_word<S: AsStr>(words: &[S]) -> &str {
+fn faulty_word<S: AsStr>(words: &[S]) -> &str
+    ensures { result.now ≡ faulty_word (map S.text (drop 1 words.now)) }
+{
     let mut last = "";
     for word in arguments(words) {
         let word = word.as_str();
@@ -161,14 +164,20 @@ fn faulty_word<S: AsStr>(words: &[S]) -> &str {
     last
 }
 
-fn is_hexadecimal(word: &str) -> bool {
-    for part in word.split(':') {
-        let digits = part.strip_prefix("0x").unwrap_or(part);
-        if !digits.bytes().all(|byte| byte.is_ascii_hexdigit()) {
-            return false;
-        }
-    }
-    true
+// Whether each part of a word between colons is hexadecimal.
+fn is_hexadecimal(word: &str) -> bool
+    ensures { result ≡ is_hexadecimal word.now }
+{
+    word.split(':').all(has_only_digits)
+}
+
+// Whether a part has only hexadecimal digits, after `0x` or without it.
+fn has_only_digits(part: &str) -> bool
+    ensures { result ≡ has_only_digits part.now }
+{
+    let bytes = part.as_bytes();
+    let digits = bytes.strip_prefix(b"0x").unwrap_or(bytes);
+    digits.iter().all(|digit| digit.is_ascii_hexdigit())
 }
 
 fn bytes_of_file<'a, F: Files>(

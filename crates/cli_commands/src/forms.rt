@@ -172,7 +172,7 @@ fn commands<'a>(alloc: Global) -> Result<Vec<Command<'a>>, AllocError> {
 }
 
 /// The version of the program.
-pub(crate) const VERSION: &str = "0.16.0";
+pub(crate) const VERSION: &str = "0.17.0";
 
 // The exit statuses, and a first command to try.
 const ENDS: &str =

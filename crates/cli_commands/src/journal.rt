@@ -2,15 +2,15 @@
 
 ghost use Rattle.std.specs.Prelude.{◌++◌, ◌<◌, ◌≡◌, codes, IfErr, IfOk, is_some, length, None, OnOk};
 ghost use Rattle.std.specs.Prelude.{option_map, string_bytes};
-ghost use Rattle.cli_commands.specs.Journals.{IsFaultOf, IsUnfit, is_of_known_version, lack_of};
 ghost use Rattle.text_journal.specs.Order.{IsFirstFallen, stamps_of};
 ghost use Rattle.text_journal.specs.Whole.{AreWhole};
 ghost use Rattle.text_script.specs.declared.status.fault.Fault.TheVariants.{NoJournal};
 ghost use Rattle.text_script.specs.Print.Rows.{name_at};
 
 use crate::files::Files;
+use crate::journal_faults::{fault_of_journal, unfit};
 use crate::line_file::LineFile;
-use crate::rerunning::{Caused, Place, with_causes};
+use crate::rerunning::{Caused, with_causes};
 use rbc_line::Line;
 use std::alloc::{AllocError, Global};
 use std::fmt;
@@ -171,18 +171,6 @@ fn entries_in(
     }
 }
 
-// The fault of the journal of a centre with these bytes, as it is reported.
-fn fault_of_journal(
-    alloc: Global,
-    line: &Line,
-    centre: u8,
-    bytes: &[u8],
-    fault: JournalFault,
-) -> Result<Fault<'static>, AllocError> {
-    let journal = file_name(alloc, line, centre)?;
-    fault_of(alloc, journal, bytes, fault)
-}
-
 // Tests whether each stamp is above the one before it.
 fn test_stamps(
     alloc: Global,
@@ -211,31 +199,6 @@ pub fn journal_name(
 {
     let file = file_name(alloc, line, centre)?;
     format!(in alloc; "{folder}/{file}")
-}
-
-/// The fault of journals whose first unfit entry is at this place. If its frame was not sent, the fault names the
-/// journal that lacks the sending event.
-pub(crate) fn unfit_at(
-    alloc: Global,
-    line: &Line,
-    place: Place,
-) -> Result<Fault<'static>, AllocError> {
-    let Some(sender) = place.sender else {
-        return unfit(alloc, line, place.centre, place.row);
-    };
-    let journal = file_name(alloc, line, place.centre)?;
-    let other = file_name(alloc, line, sender)?;
-    let journal = format!(in alloc; "{other} lacks the event that sends the frame of {journal}")?;
-    let row = place.row;
-    Ok(Fault::Unfit { journal, row })
-}
-
-// The fault of journals whose first unfit line is this line of this centre's journal.
-fn unfit(alloc: Global, line: &Line, centre: u8, row: usize) -> Result<Fault<'static>, AllocError>
-    ensures { IfOk result (IsUnfit (name_at line.now centre ++ codes ".journal") row) }
-{
-    let journal = file_name(alloc, line, centre)?;
-    Ok(Fault::Unfit { journal, row })
 }
 
 // Reads a journal without a line feed: it may end in its first line.
@@ -283,42 +246,4 @@ fn text_before(bytes: &[u8], at: usize) -> &str {
     let front = bytes.get(..at).unwrap_or(&[]);
     let lines = front.get(..whole_length(front)).unwrap_or(&[]);
     from_utf8(lines).unwrap_or("")
-}
-
-// Whether a file begins as a journal of version 1 or 2.
-fn is_of_known_version(bytes: &[u8]) -> bool
-    ensures { result ≡ is_of_known_version bytes.now }
-{
-    bytes.starts_with(b"journal 1 ") || bytes.starts_with(b"journal 2 ")
-}
-
-// The fault of the journal with this name and these bytes, as it is reported.
-fn fault_of(
-    alloc: Global,
-    journal: String,
-    bytes: &[u8],
-    fault: JournalFault,
-) -> Result<Fault<'static>, AllocError>
-    ensures { IfOk result (IsFaultOf journal bytes.now fault) }
-{
-    match fault {
-        JournalFault::Memory => Err(AllocError),
-        JournalFault::Damaged(row) => Ok(Fault::Damaged { journal, row }),
-        JournalFault::Foreign if is_of_known_version(bytes) => Ok(Fault::Foreign(journal)),
-        JournalFault::Foreign => {
-            let lack = lack_of(bytes);
-            Ok(Fault::NoJournal(format!(in alloc; "{journal}: {lack}")?))
-        }
-    }
-}
-
-// The reason why bytes that do not begin as a journal of a known version are not a journal.
-fn lack_of(bytes: &[u8]) -> &'static str
-    ensures { result.now ≡ lack_of bytes.now }
-{
-    if bytes.starts_with(b"journal ") {
-        "it has another version than 1 and 2"
-    } else {
-        "it is not a journal"
-    }
 }

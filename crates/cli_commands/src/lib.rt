@@ -17,6 +17,7 @@ mod forms;
 mod in_words;
 pub mod inspecting;
 pub mod journal;
+mod journal_faults;
 pub mod line_file;
 mod margin;
 mod matching;

@@ -1,6 +1,6 @@
 //! The known name that is most like a misspelt one.
 
-ghost use Rattle.std.specs.Prelude.{◌↔◌, ◌≡◌, IfOk, IsTrue, map, option_map};
+ghost use Rattle.std.specs.Prelude.{◌↔◌, IfOk, IsTrue, map, option_map};
 ghost use Rattle.cli_commands.specs.Nearest.{IsLike, IsNearest};
 
 use rbc_line::Line;
@@ -46,7 +46,10 @@ pub fn nearest_centre<'a>(
     alloc: Global,
     line: &'a Line,
     word: &str,
-) -> Result<Nearest<'a>, AllocError> {
+) -> Result<Nearest<'a>, AllocError>
+    ensures { IfOk result (λ nearest. IsNearest word.now (map (λ p. p.name) line.now.centres)
+        (option_map (λ name. name.now) nearest.0)) }
+{
     for c in 0..line.centre_count() {
         if let Some(name) = line.centre_name(c)
             && is_like(alloc, word, name)?

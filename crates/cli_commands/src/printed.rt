@@ -1,7 +1,8 @@
 //! Prints the run of journals, and reads the text of any print.
 
 use crate::files::Files;
-use crate::journal::{Part, journals_in, unfit_at};
+use crate::journal::{Part, journals_in};
+use crate::journal_faults::unfit_at;
 use crate::line_file::LineFile;
 use crate::margin::Margin;
 use crate::output::flushed;

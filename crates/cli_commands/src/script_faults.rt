@@ -1,11 +1,10 @@
 //! The reason why a line of a script is refused.
 
-ghost use Rattle.std.specs.Prelude.{◌≡◌, ◌↔◌, IfOk, IsSome, IsTrue, None, option_map};
+ghost use Rattle.std.specs.List.{slice_split};
+ghost use Rattle.std.specs.Prelude.{◌==◌, ◌≡◌, ◌↔◌, IfOk, IsSome, IsTrue, map, None, option_map};
 ghost use Rattle.cli_commands.specs.Forms.{form_of};
-ghost use Rattle.cli_commands.specs.RowFaults.{centre_at, HasBlank, HasOuterBlank, IsByBlanks, IsByBytes, IsByCentre};
-ghost use Rattle.cli_commands.specs.RowFaults.{IsByForm, PutsBlanksFirst};
-ghost use Rattle.cli_commands.specs.declared.script_faults.RowFault.{RowFault as Why};
-ghost use Rattle.cli_commands.specs.declared.script_faults.RowFault.TheVariants.{Frame};
+ghost use Rattle.cli_commands.specs.RowFaults.{HasBlank, HasOuterBlank, IsAtCentre, IsByBlanks, IsByBytes, IsByCentre};
+ghost use Rattle.cli_commands.specs.RowFaults.{IsByForm, IsByFrame, IsByThree, IsByWords, IsReason};
 ghost use Rattle.text_script.specs.Script.{row_asks};
 
 use crate::nearest::{Nearest, nearest_centre, nearest_of};
@@ -63,7 +62,7 @@ pub fn row_fault<'a>(
 
 // The reason why this refused line is refused.
 fn fault_of<'a>(alloc: Global, line: &'a Line, row: &'a str) -> Result<RowFault<'a>, AllocError>
-    ensures { IfOk result (PutsBlanksFirst row.now) }
+    ensures { IfOk result (IsReason line.now row.now) }
 {
     match fault_of_blanks(row) {
         Some(fault) => Ok(fault),
@@ -104,20 +103,57 @@ fn has_outer_blank(row: &str) -> bool
     row.starts_with(' ') || row.ends_with(' ')
 }
 
+// The fault of the words of a line.
 fn fault_of_words<'a>(
     alloc: Global,
     line: &'a Line,
     row: &'a str,
-) -> Result<RowFault<'a>, AllocError> {
-    let words: Vec<&str> = row.split(' ').collect(alloc)?;
-    match words.as_slice() {
-        ["train", centre, bytes] => fault_at_centre(alloc, line, centre, fault_of_bytes(bytes)),
-        ["set" | "unset", centre, section] => {
-            fault_at_centre(alloc, line, centre, RowFault::Section(section))
+) -> Result<RowFault<'a>, AllocError>
+    ensures { IfOk result (IsByWords line.now (slice_split (λ b. b == 32) row.now)) }
+{
+    let words = words_of(alloc, row)?;
+    fault_in(alloc, line, &words)
+}
+
+// The words of a line: one blank is between two of them.
+fn words_of<'a>(alloc: Global, row: &'a str) -> Result<Vec<&'a str>, AllocError>
+    ensures { IfOk result (λ words. map (λ word. word.now) words.items ≡ slice_split (λ b. b == 32) row.entry.now) }
+{
+    row.split(' ').collect(alloc)
+}
+
+// The fault of a line with these words.
+fn fault_in<'a>(
+    alloc: Global,
+    line: &'a Line,
+    words: &[&'a str],
+) -> Result<RowFault<'a>, AllocError>
+    ensures { IfOk result (IsByWords line.now (map (λ word. word.now) words.now)) }
+{
+    match words {
+        [verb, centre, word] => fault_of_three(alloc, line, verb, centre, word),
+        [verb, from, to, number] if *verb == "deliver" => {
+            fault_of_delivery(alloc, line, from, to, number)
         }
-        ["deliver", from, to, number] => fault_of_delivery(alloc, line, from, to, number),
         [verb, ..] => fault_of_form(alloc, verb),
         [] => Ok(RowFault::Blank),
+    }
+}
+
+// The fault of an event that reaches a centre, or of a line with another form than its event has.
+fn fault_of_three<'a>(
+    alloc: Global,
+    line: &'a Line,
+    verb: &'a str,
+    centre: &'a str,
+    word: &'a str,
+) -> Result<RowFault<'a>, AllocError>
+    ensures { IfOk result (IsByThree line.now verb.now centre.now word.now) }
+{
+    match verb {
+        "train" => fault_at_centre(alloc, line, centre, fault_of_bytes(word)),
+        "set" | "unset" => fault_at_centre(alloc, line, centre, RowFault::Section(word)),
+        _ => fault_of_form(alloc, verb),
     }
 }
 
@@ -152,7 +188,7 @@ fn fault_at_centre<'a>(
     centre: &'a str,
     other: RowFault<'a>,
 ) -> Result<RowFault<'a>, AllocError>
-    ensures { IfOk result (IsByCentre (centre_at line.now centre.now) centre.now other.entry) }
+    ensures { IfOk result (IsByCentre line.now centre.now other.entry) }
 {
     if line.centre_named(centre).is_some() {
         return Ok(other);
@@ -178,9 +214,7 @@ fn fault_of_delivery<'a>(
     number: &'a str,
 ) -> Result<RowFault<'a>, AllocError>
     // The first centre's name is tested first.
-    ensures { IfOk result (λ fault. (second : Why)
-        × IsByCentre (centre_at line.now to.now) to.now (Frame number.entry) second
-        × IsByCentre (centre_at line.now from.now) from.now second fault) }
+    ensures { IfOk result (IsAtCentre line.now from.now (IsAtCentre line.now to.now (IsByFrame number.now))) }
 {
     let second = fault_at_centre(alloc, line, to, RowFault::Frame(number))?;
     fault_at_centre(alloc, line, from, second)

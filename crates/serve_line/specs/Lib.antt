@@ -14,7 +14,6 @@ pub mod Listening
 pub mod Lists
 pub mod Lives
 pub mod Marks
-pub mod Meanings
 pub mod Mentions
 pub mod News
 pub mod Pages

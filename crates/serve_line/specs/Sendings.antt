@@ -2,7 +2,7 @@
 use Rattle.std.specs.declared.time.Instant.{Instant}
 use Rattle.std.specs.Io.KnownBytes.{Appends}
 use Rattle.std.specs.Option.{option_map_or}
-use Rattle.std.specs.Prelude.{[], ◌-◌, ◌/◌, ◌≡◌, Bool, drop, List, nat_le, Option, take, true, ℕ}
+use Rattle.std.specs.Prelude.{◌-◌, ◌/◌, ◌≡◌, Bool, drop, List, nat_le, Option, take, true, ℕ}
 use Rattle.std.specs.Time.{instant_nanos}
 use Rattle.serve_line.specs.declared.clients.sending.Sent.{Sent}
 use Rattle.serve_line.specs.declared.clients.sending.Sent.TheVariants.{Short, Whole}

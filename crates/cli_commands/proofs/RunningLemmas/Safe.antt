@@ -1,11 +1,10 @@
 -- The print of a script is safe: its events are a run of the centres.
-use Rattle.std.proofs.Common.{[], ◌++◌, ◌∙◌, ◌∷◌, ◌≡◌, ap, append-nil, append_assoc, codes, Err, List, map, Ok, Option}
-use Rattle.std.proofs.Common.{refl, Result, subst, sym, ℕ}
+use Rattle.std.proofs.Common.{[], ◌++◌, ◌∙◌, ◌∷◌, ◌≡◌, ap, append-nil, append_assoc, Err, List, Ok, Option, refl}
+use Rattle.std.proofs.Common.{Result, subst, sym, ℕ}
 use Rattle.cli_commands.specs.Running.Printed.{Adds, LeavesPrint}
 use Rattle.cli_commands.specs.Running.Safe.{answers_in, AreSafeParts, ArePartPrints, events_in, LeavesSafePrint, Part}
 use Rattle.cli_commands.specs.Running.Safe.{Shown, Stepped}
 use Rattle.cli_commands.specs.Runs.{LeavesRun, LeavesSafeRun}
-use Rattle.law_outside.specs.Outside.{IsSafeOutside, nothing_seen, sees_all, spoken_of}
 use Rattle.law_promises.proofs.Pieces.{run_safe}
 use Rattle.law_reached.proofs.Known.{the_run}
 use Rattle.rbc_spec.specs.Line.{IsLine, Line}
@@ -21,7 +20,6 @@ use Rattle.text_script.specs.declared.status.print_fault.PrintFault.{PrintFault}
 use Rattle.text_script.specs.Played.{IsPlayed}
 use Rattle.text_script.specs.Print.Rows.{event_row}
 use Rattle.text_script.specs.Print.Shown.{line_text}
-use Rattle.text_script.specs.rbc_centre.declared.fault.StepFault.{StepFault}
 use Rattle.text_script.specs.rbc_centre.declared.fault.StepFault.TheVariants as refused
 use Rattle.text_script.specs.rbc_world.Views.{event_of}
 

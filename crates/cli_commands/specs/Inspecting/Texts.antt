@@ -1,6 +1,6 @@
 -- The texts of findings.
 use Rattle.std.specs.Fmt.{◌++?◌, debug_str, decimal, signed_decimal}
-use Rattle.std.specs.Prelude.{[], ◌++◌, codes, List, None, Option, Some, ℕ}
+use Rattle.std.specs.Prelude.{[], ◌++◌, codes, List, Option, Some, ℕ}
 use Rattle.cli_commands.specs.declared.inspecting.finding.Finding.{Finding}
 use Rattle.cli_commands.specs.declared.inspecting.finding.Flaw.{Flaw}
 use Rattle.cli_commands.specs.declared.inspecting.finding.Flaw.TheVariants as flaw

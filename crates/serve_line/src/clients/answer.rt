@@ -1,6 +1,7 @@
 ghost use Rattle.std.specs.Option.{option_map_or};
-ghost use Rattle.std.specs.Prelude.{◌≡◌, option_map, IfOk, IfSome};
+ghost use Rattle.std.specs.Prelude.{◌≡◌, option_map, IfOk, IfSome, OnErr};
 ghost use Rattle.serve_line.specs.Commits.{IsAnswer, IsAnswerTo, IsShowAnswer, IsShowText, journal_fault};
+ghost use Rattle.serve_line.specs.Commits.{MayBeDone, MayBeTaken};
 ghost use Rattle.serve_control.specs.Answers.{IsCommitPrint};
 ghost use Rattle.serve_line.specs.Journaling.Waiting.{awaited};
 
@@ -38,8 +39,9 @@ pub(crate) fn answer<R: Wait>(
     shares: &mut [Share],
     command: Command,
 ) -> Result<Opened<Vec<u8>>, Fault<'static>>
-    ensures { IfOk result (λ opened. IsAnswerTo served.entry.server.now.line.now
-        served.entry.server.now.nodes.now served.entry.server.now.options.shows_life command opened.answer.items) }
+    ensures ok { IfOk result
+        (λ opened. IsAnswerTo served.entry command shares.old shares.new opened.answer.items) }
+    ensures err { OnErr result (MayBeDone served.entry.server.now.nodes.now command shares.old shares.new) }
 {
     match command {
         Command::Nothing | Command::Stop | Command::StopNow => Ok(Opened::nothing(
@@ -72,8 +74,7 @@ fn show_written<R: Wait>(
     server: &Server<'_>,
     slot: &Slot,
 ) -> Result<Opened<Vec<u8>>, Fault<'static>>
-    ensures { IfOk result (λ opened. IsShowAnswer server.now.line.now server.now.nodes.now
-        server.now.options.shows_life opened.answer.items) }
+    ensures { IfOk result (λ opened. IsShowAnswer server.now opened.answer.items) }
 {
     let text = show_text(rt, server)?;
     let is_waiting = slot.is_reserve && server.sinks.iter().any(|sink| sink.queue.is_long());
@@ -106,20 +107,24 @@ fn commit<R: Wait>(
     event: Event,
     printed: &WorldEvent,
 ) -> Result<Opened<Vec<u8>>, Fault<'static>>
-    ensures { IfOk result (λ opened. IsAnswer served.entry.server.now.line.now served.entry.server.now.nodes.now
-        centre event printed.now opened.answer.items) }
+    ensures ok { IfOk result
+        (λ opened. IsAnswer served.entry centre event printed.now shares.old shares.new opened.answer.items) }
+    ensures err { OnErr result (MayBeTaken served.entry.server.now.nodes.now centre event shares.old shares.new) }
 {
     let Served { server, slot } = served;
-    let (Some(committer), Some(share)) = (server.committer(centre), shares.get_mut(centre as usize))
-    else {
+    let place = centre as usize;
+    let Some(committer) = server.committer(centre) else {
         return Ok(Opened::nothing(server.alloc));
     };
+    if place >= shares.len() {
+        return Ok(Opened::nothing(server.alloc));
+    }
     let sink = committer.sink;
     let is_waiting = slot.is_reserve && sink.queue.is_long();
     if is_waiting || server.is_stuck(rt, centre) {
         return Ok(fixed(server.alloc, JOURNAL_FAULT)?);
     }
-    let answer = committer.commit(rt, share, event);
+    let answer = committer.commit(rt, &mut shares[place], event);
     let sealed = sealed_answer(server.alloc, server.line, sink, centre, printed, &answer)?;
     Ok(kept_or_fault(server.alloc, opened_by(rt, sink, sealed))?)
 }

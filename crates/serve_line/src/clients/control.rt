@@ -5,12 +5,11 @@ ghost use Rattle.serve_line.specs.declared.clients.sending.Sent.{Sent as SentPar
 
 use crate::clients::answer::{SCRIPT_FAULT, Served, answer, fixed};
 use crate::clients::limits::{CONTROL_REST_MS, RESERVE_RESTS};
-use crate::clients::meaning::{Meaning, meaning_of};
 use crate::clients::rows::{Came, RowReader};
 use crate::clients::sending::{Sent, send};
 use crate::state::{PeerStream, Server, Slot};
 use rbc_node::Share;
-use serve_control::Command;
+use serve_control::{Command, Meaning, meaning_of};
 use serve_notes::{About, Kind, Notes, PeerConnection};
 use std::io::Write;
 use std::sync::Wait;

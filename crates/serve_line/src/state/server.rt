@@ -1,4 +1,4 @@
-ghost use Rattle.std.specs.Prelude.{◌≡◌, false, IfSome, None, option_map, slice_get, true};
+ghost use Rattle.std.specs.Prelude.{◌≡◌, ◌⊎◌, false, IfNone, IfSome, None, option_map, slice_get, true};
 ghost use Rattle.rbc_log.specs.Log.{LogValue};
 ghost use Rattle.rbc_node.specs.Node.{centre_of, IsLogOf};
 ghost use Rattle.serve_journal.specs.Shown.{shows};
@@ -190,6 +190,8 @@ impl Server<'_> {
     pub fn committer(&self, centre: u8) -> Option<Committer<'_, Open, CentreSink<'_>>>
         ensures node { IfSome result (λ committer. slice_get self.now.nodes.now centre ≡ Some committer.node.now) }
         ensures sink { IfSome result (λ committer. slice_get self.now.sinks.now centre ≡ Some committer.sink.now) }
+        ensures none { IfNone result
+            ((slice_get self.now.nodes.now centre ≡ None) ⊎ (slice_get self.now.sinks.now centre ≡ None)) }
     {
         let node = self.nodes.get(centre as usize)?;
         let sink = self.sinks.get(centre as usize)?;

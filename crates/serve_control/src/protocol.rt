@@ -1,6 +1,6 @@
 ghost use Rattle.std.specs.List.{list_any};
 ghost use Rattle.std.specs.Prelude.{◌≡◌};
-ghost use Rattle.serve_line.specs.Rows.{is_control, is_of_another_protocol, without_return};
+ghost use Rattle.serve_control.specs.Protocols.{is_control, is_of_another_protocol, without_return};
 
 /// Whether a line is the request line of HTTP/1, or has a control character other than a tab. A browser sends such a
 /// line, perhaps for a page of another site. The lines that follow are not from the interlocking.

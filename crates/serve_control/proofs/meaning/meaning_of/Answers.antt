@@ -1,14 +1,14 @@
 use Rattle.std.proofs.Common.{◌≡◌, Err, false, IfErr, IfOk, List, Ok, Result, subst, sym, ℕ}
 use Rattle.std.specs.Prelude.{IsUtf8}
 use Rattle.rbc_spec.specs.Line.{Line}
+use Rattle.serve_control.proofs.meaning.meaning_of.Goals as goal
 use Rattle.serve_control.specs.Commands.{Bids, IsNoCommand}
+use Rattle.serve_control.specs.Meanings.{IsMeaning, meaning_by}
+use Rattle.serve_control.specs.Protocols.{is_of_another_protocol}
 use Rattle.serve_control.specs.declared.command.Command.{Command}
 use Rattle.serve_control.specs.declared.command.CommandFault.TheVariants.{Form, Memory}
 use Rattle.serve_control.specs.declared.command.CommandFault.{CommandFault}
-use Rattle.serve_line.proofs.clients.meaning.meaning_of.Goals as goal
-use Rattle.serve_line.specs.declared.clients.meaning.Meaning.{Meaning}
-use Rattle.serve_line.specs.Meanings.{IsMeaning, meaning_by}
-use Rattle.serve_line.specs.Rows.{is_of_another_protocol}
+use Rattle.serve_control.specs.declared.meaning.Meaning.{Meaning}
 
 -- the meaning of a text that is the line
 means :

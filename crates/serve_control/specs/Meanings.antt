@@ -5,8 +5,8 @@ use Rattle.serve_control.specs.Commands.{Bids, IsNoCommand}
 use Rattle.serve_control.specs.declared.command.Command.{Command}
 use Rattle.serve_control.specs.declared.command.CommandFault.TheVariants.{Form, Memory}
 use Rattle.serve_control.specs.declared.command.CommandFault.{CommandFault}
-use Rattle.serve_line.specs.declared.clients.meaning.Meaning.TheVariants as meaning
-use Rattle.serve_line.specs.declared.clients.meaning.Meaning.{Meaning}
+use Rattle.serve_control.specs.declared.meaning.Meaning.TheVariants as meaning
+use Rattle.serve_control.specs.declared.meaning.Meaning.{Meaning}
 
 -- the meaning by the command of a line
 abbrev pub meaning_by : Result Command CommandFault → Meaning

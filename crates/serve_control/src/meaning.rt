@@ -1,28 +1,29 @@
 ghost use Rattle.std.specs.Prelude.{◌≡◌, false, true};
-ghost use Rattle.serve_line.specs.declared.clients.meaning.Meaning.TheVariants.{Foreign};
-ghost use Rattle.serve_line.specs.Meanings.{IsMeaning, meaning_by};
-ghost use Rattle.serve_line.specs.Rows.{is_of_another_protocol};
+ghost use Rattle.serve_control.specs.declared.meaning.Meaning.TheVariants.{Foreign};
+ghost use Rattle.serve_control.specs.Meanings.{IsMeaning, meaning_by};
+ghost use Rattle.serve_control.specs.Protocols.{is_of_another_protocol};
 
-use crate::clients::protocol::is_of_another_protocol;
+use crate::command::{Command, CommandFault, command_of};
+use crate::protocol::is_of_another_protocol;
 use rbc_line::Line;
-use serve_control::{Command, CommandFault, command_of};
 use std::alloc::Global;
 
 /// The meaning of a line at the control endpoint.
-#[derive(Clone, Copy)]
-pub(crate) enum Meaning {
+#[derive(Clone, Copy, Debug, PartialEq, Eq)]
+pub enum Meaning {
     /// A command.
     Command(Command),
     /// The line has no valid form.
     NoForm,
-    /// The line is of another protocol.
+    /// The line is of another protocol: the request line of HTTP/1, or a line with a control character other than a
+    /// tab. The connection is not from the interlocking.
     Foreign,
     /// Memory ran out.
     NoMemory,
 }
 
-/// The meaning of a line at the control endpoint.
-pub(crate) fn meaning_of(alloc: Global, line: &Line, row: &[u8]) -> Meaning
+/// The meaning of a line at the control endpoint, without the line feed that ends it.
+pub fn meaning_of(alloc: Global, line: &Line, row: &[u8]) -> Meaning
     ensures foreign { is_of_another_protocol row.now ≡ true → result ≡ Foreign }
     ensures own { is_of_another_protocol row.now ≡ false → IsMeaning line.now row.now result }
 {
