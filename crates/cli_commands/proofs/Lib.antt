@@ -3,3 +3,5 @@ pub mod RunningLemmas
 pub mod RerunningLemmas
 pub mod InspectingLemmas
 pub mod RowFaultLemmas
+pub mod HomeLemmas
+pub mod JournalLemmas

@@ -1,3 +1,4 @@
 pub mod Findings
+pub mod Homes
 pub mod Notes
 pub mod Texts

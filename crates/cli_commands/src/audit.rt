@@ -1,7 +1,11 @@
 //! The audit of a print of `run` or `serve`, or of journals.
 
-ghost use Rattle.std.specs.Prelude.{◌≡◌, ◌⊎◌};
+ghost use Rattle.std.specs.Prelude.{◌≡◌, ◌⊎◌, IfOk, List, None};
 ghost use Rattle.cli_commands.specs.Auditing.{Audits, Reports};
+ghost use Rattle.cli_commands.specs.Journals.{AreAllEntries};
+ghost use Rattle.cli_commands.specs.Rerunning.Rerun.{IsRerun};
+ghost use Rattle.rbc_spec.specs.World.{World};
+ghost use Rattle.text_journal.specs.declared.entry.Entry.{Entry};
 ghost use Rattle.text_script.specs.declared.status.fault.Fault.TheVariants.{Differs, Write};
 
 use crate::files::{Files, Rows};
@@ -65,7 +69,11 @@ fn audit_journals<F: Files, O: Write>(
     folder: &str,
     files: &F,
     out: &mut O,
-) -> Result<Option<Part>, Fault<'static>> {
+) -> Result<Option<Part>, Fault<'static>>
+    ensures { IfOk result (λ part. part ≡ None → (all : List Entry)
+        × AreAllEntries (F.may_hold files.now) given.now folder.now all
+        × (last : World) × IsRerun given.now.line all last) }
+{
     match journals_in(alloc, given, folder, files) {
         Ok(events) => audit_events(alloc, &given.line, &events, out),
         Err(Fault::Unfit { journal, row }) => Err(differs(journal.as_str(), row, out)),
@@ -80,7 +88,8 @@ fn audit_events<O: Write>(
     events: &Events,
     out: &mut O,
 ) -> Result<Option<Part>, Fault<'static>>
-    ensures { Audits line.now events.now.entries.items result }
+    ensures run { Audits line.now events.now.entries.items result }
+    ensures part { IfOk result (λ part. part ≡ None → events.now.left_out ≡ None) }
 {
     match first_unfit(alloc, line, &events.entries)? {
         None => {

@@ -8,15 +8,17 @@ pub trait Files {
     /// such as those of the system: for each name they may give any text, or none.
     ghost may_give: { Self → List ℕ → Option (List ℕ) → Type 0 } = { λ _ _ _. Unit {0} };
 
+    /// The same of the bytes that `contents` may give.
+    ghost may_hold: { Self → List ℕ → Option (List ℕ) → Type 0 } = { λ _ _ _. Unit {0} };
+
     /// The text of the file of this name. None if it can't be read: the file does not exist, is not UTF-8, or memory
     /// runs out.
     fn text(&self, name: &str) -> Option<String>
         ensures { may_give self.now name.now (option_map string_bytes result) };
 
     /// The bytes of the file of this name. None if it can't be read (see `text`), or is not a plain file.
-    fn contents(&self, name: &str) -> Option<Vec<u8>> {
-        Some(self.text(name)?.into_bytes())
-    }
+    fn contents(&self, name: &str) -> Option<Vec<u8>>
+        ensures { may_hold self.now name.now (option_map (λ bytes. bytes.items) result) };
 
     /// Whether a program writes the journal of this name now.
     fn is_written(&self, _name: &str) -> bool {

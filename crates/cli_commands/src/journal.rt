@@ -1,11 +1,12 @@
 //! Reads the journals of a line's centres from one folder.
 
-ghost use Rattle.std.specs.Prelude.{◌++◌, ◌<◌, ◌≡◌, codes, IfErr, IfOk, is_some, length, None, OnOk};
-ghost use Rattle.std.specs.Prelude.{option_map, string_bytes};
+ghost use Rattle.std.specs.Prelude.{◌<◌, ◌≡◌, ◌≢◌, ◌≤◌, IfErr, IfOk, is_some, length, List, None, OnOk, option_map};
+ghost use Rattle.std.specs.Prelude.{Some, string_bytes, ℕ};
+ghost use Rattle.cli_commands.specs.Journals.{AreAllEntries, AreEntries, AreEventsOf, IsJournal, IsReading, IsRefused};
+ghost use Rattle.cli_commands.specs.Journals.{journal_name, out_of_memory, read_part};
 ghost use Rattle.text_journal.specs.Order.{IsFirstFallen, stamps_of};
 ghost use Rattle.text_journal.specs.Whole.{AreWhole};
 ghost use Rattle.text_script.specs.declared.status.fault.Fault.TheVariants.{NoJournal};
-ghost use Rattle.text_script.specs.Print.Rows.{name_at};
 
 use crate::files::Files;
 use crate::journal_faults::{fault_of_journal, unfit};
@@ -74,7 +75,10 @@ pub fn journals_in<F: Files>(
     given: &LineFile,
     folder: &str,
     files: &F,
-) -> Result<Events, Fault<'static>> {
+) -> Result<Events, Fault<'static>>
+    ensures { IfOk result (λ events. (all : List Entry)
+        × AreAllEntries (F.may_hold files.now) given.now folder.now all × AreEventsOf all events) }
+{
     let mut journals = Vec::new(alloc);
     let mut is_written = false;
     for centre in 0..given.line.centre_count() {
@@ -94,6 +98,8 @@ fn entries_of<F: Files>(
     files: &F,
 ) -> Result<Vec<Entry>, Fault<'static>>
     requires { centre < length given.now.line.centres }
+    ensures { (folder : List ℕ) → string_bytes path ≡ journal_name given.now.line folder centre
+        → IfOk result (λ entries. IsJournal (F.may_hold files.now) given.now folder centre entries.items) }
 {
     let bytes = bytes_of(path, files)?;
     match journal_of(alloc, given, centre, &bytes) {
@@ -103,7 +109,8 @@ fn entries_of<F: Files>(
 }
 
 fn bytes_of<F: Files>(path: String, files: &F) -> Result<Vec<u8>, Fault<'static>>
-    ensures { IfErr result (λ fault. fault ≡ NoJournal path) }
+    ensures held { IfOk result (λ bytes. F.may_hold files.now (string_bytes path) (Some bytes.items)) }
+    ensures fault { IfErr result (λ fault. fault ≡ NoJournal path) }
 {
     match files.contents(path.as_str()) {
         Some(bytes) => Ok(bytes),
@@ -117,7 +124,8 @@ fn events_of(
     entries: Vec<Entry>,
     is_written: bool,
 ) -> Result<Events, Fault<'static>>
-    ensures { IfOk result (λ events. is_some events.left_out ≡ is_written) }
+    ensures written { IfOk result (λ events. is_some events.left_out ≡ is_written) }
+    ensures all { IfOk result (AreEventsOf entries.items) }
 {
     if !is_written {
         return Ok(Events {
@@ -142,32 +150,38 @@ pub fn journal_of(
 ) -> Result<Journal, Fault<'static>>
     requires { centre < length given.now.line.centres }
     ensures whole { IfOk result (λ journal. AreWhole bytes.now journal.length) }
+    ensures read { IfOk result (λ journal. AreEntries given.now centre (read_part bytes.now journal.length)
+        journal.entries.items) }
     ensures rising { IfOk result (λ journal. IsFirstFallen (stamps_of journal.entries.items) None) }
+    ensures refused { IfErr result (λ why. (count : ℕ) → AreWhole bytes.now count
+        → IsRefused given.now centre (read_part bytes.now count) why) }
 {
     let length = whole_length(bytes);
-    match entries_in(alloc, given, centre, bytes) {
-        Ok(entries) => {
-            test_stamps(alloc, &given.line, centre, &entries)?;
-            Ok(Journal { entries, length })
-        }
+    match entries_in(alloc, given, centre, bytes, length) {
+        Ok(entries) => match test_stamps(alloc, &given.line, centre, &entries) {
+            Ok(()) => Ok(Journal { entries, length }),
+            Err(fault) => Err(fault),
+        },
         Err(fault) => Err(fault_of_journal(alloc, &given.line, centre, bytes, fault)?),
     }
 }
 
-// The entries of the whole lines of a journal.
+// The entries of a journal whose whole lines are its first `count` bytes.
 fn entries_in(
     alloc: Global,
     given: &LineFile,
     centre: u8,
     bytes: &[u8],
+    count: usize,
 ) -> Result<Vec<Entry>, JournalFault>
     requires { centre < length given.now.line.centres }
+    requires { count ≤ length bytes.now }
+    ensures { IsReading given.now centre (read_part bytes.now count) result }
 {
-    let count = whole_length(bytes);
     if count == 0 {
         first_in(alloc, given, centre, bytes)
     } else {
-        lines_in(alloc, given, centre, bytes.get(..count).unwrap_or(bytes))
+        lines_in(alloc, given, centre, &bytes[..count])
     }
 }
 
@@ -178,7 +192,8 @@ fn test_stamps(
     centre: u8,
     entries: &[Entry],
 ) -> Result<(), Fault<'static>>
-    ensures { OnOk result (IsFirstFallen (stamps_of entries.now) None) }
+    ensures rising { OnOk result (IsFirstFallen (stamps_of entries.now) None) }
+    ensures fallen { IfErr result (λ why. why ≢ out_of_memory → ¬ IsFirstFallen (stamps_of entries.now) None) }
 {
     match first_fallen(entries) {
         // The first line is not an entry.
@@ -194,8 +209,7 @@ pub fn journal_name(
     folder: &str,
     centre: u8,
 ) -> Result<String, AllocError>
-    ensures { IfOk result (λ path. string_bytes path
-        ≡ folder.now ++ (codes "/" ++ (name_at line.now centre ++ codes ".journal"))) }
+    ensures { IfOk result (λ path. string_bytes path ≡ journal_name line.now folder.now centre) }
 {
     let file = file_name(alloc, line, centre)?;
     format!(in alloc; "{folder}/{file}")
@@ -209,6 +223,7 @@ fn first_in(
     bytes: &[u8],
 ) -> Result<Vec<Entry>, JournalFault>
     requires { centre < length given.now.line.centres }
+    ensures { IsReading given.now centre bytes.now result }
 {
     match from_utf8(bytes) {
         Ok(text) => read_journal(alloc, &given.line, centre, given.text.as_str(), text),
@@ -224,20 +239,30 @@ fn lines_in(
     whole: &[u8],
 ) -> Result<Vec<Entry>, JournalFault>
     requires { centre < length given.now.line.centres }
+    ensures { IsReading given.now centre whole.now result }
 {
-    let (text, is_whole) = match from_utf8(whole) {
-        Ok(text) => (text, true),
-        Err(error) => (text_before(whole, error.valid_up_to()), false),
-    };
-    if text.is_empty() {
-        return Err(JournalFault::Foreign);
+    match from_utf8(whole) {
+        Ok(text) => read_journal(alloc, &given.line, centre, given.text.as_str(), text),
+        Err(error) => Err(fault_after(
+            alloc,
+            given,
+            centre,
+            text_before(whole, error.valid_up_to()),
+        )),
     }
-    let entries = read_journal(alloc, &given.line, centre, given.text.as_str(), text)?;
-    if is_whole {
-        Ok(entries)
-    } else {
+}
+
+// The fault of whole lines if the first that is not UTF-8 comes after this text.
+fn fault_after(alloc: Global, given: &LineFile, centre: u8, text: &str) -> JournalFault
+    requires { centre < length given.now.line.centres }
+{
+    if text.is_empty() {
+        return JournalFault::Foreign;
+    }
+    match read_journal(alloc, &given.line, centre, given.text.as_str(), text) {
         // The first line is not an entry.
-        Err(JournalFault::Damaged(entries.len().saturating_add(2)))
+        Ok(entries) => JournalFault::Damaged(entries.len().saturating_add(2)),
+        Err(fault) => fault,
     }
 }
 

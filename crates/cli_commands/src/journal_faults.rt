@@ -1,7 +1,8 @@
 //! The faults of journals, as they are reported.
 
-ghost use Rattle.std.specs.Prelude.{◌++◌, ◌≡◌, codes, IfOk};
+ghost use Rattle.std.specs.Prelude.{◌++◌, ◌≡◌, ◌≢◌, codes, IfOk};
 ghost use Rattle.cli_commands.specs.Journals.{IsFaultOf, IsUnfit, is_of_known_version, lack_of};
+ghost use Rattle.text_journal.specs.declared.fault.JournalFault.TheVariants.{Memory};
 ghost use Rattle.text_script.specs.Print.Rows.{name_at};
 
 use crate::rerunning::Place;
@@ -17,7 +18,9 @@ pub(crate) fn fault_of_journal(
     centre: u8,
     bytes: &[u8],
     fault: JournalFault,
-) -> Result<Fault<'static>, AllocError> {
+) -> Result<Fault<'static>, AllocError>
+    ensures { IfOk result (λ _. fault ≢ Memory) }
+{
     let journal = file_name(alloc, line, centre)?;
     fault_of(alloc, journal, bytes, fault)
 }

@@ -1,7 +1,7 @@
 //! The reason why a line of a script is refused.
 
 ghost use Rattle.std.specs.List.{slice_split};
-ghost use Rattle.std.specs.Prelude.{◌==◌, ◌≡◌, ◌↔◌, IfOk, IsSome, IsTrue, map, None, option_map};
+ghost use Rattle.std.specs.Prelude.{◌==◌, ◌≡◌, ◌↔◌, IfOk, IfSome, IsSome, IsTrue, map, None, option_map};
 ghost use Rattle.cli_commands.specs.Forms.{form_of};
 ghost use Rattle.cli_commands.specs.RowFaults.{HasBlank, HasOuterBlank, IsAtCentre, IsByBlanks, IsByBytes, IsByCentre};
 ghost use Rattle.cli_commands.specs.RowFaults.{IsByForm, IsByFrame, IsByThree, IsByWords, IsReason};
@@ -51,7 +51,8 @@ pub fn row_fault<'a>(
     line: &'a Line,
     row: &'a str,
 ) -> Result<Option<RowFault<'a>>, AllocError>
-    ensures { IfOk result (λ fault. (fault ≡ None) ↔ IsSome (row_asks line.now row.now)) }
+    ensures refused { IfOk result (λ fault. (fault ≡ None) ↔ IsSome (row_asks line.now row.now)) }
+    ensures reason { IfOk result (λ fault. IfSome fault (IsReason line.now row.now)) }
 {
     match entry_of(alloc, line, row) {
         Ok(_) => Ok(None),

@@ -1,6 +1,7 @@
 //! The homes of the sections along a track.
 
-ghost use Rattle.std.specs.Prelude.{◌≡◌, false, None, Ok, OnOk, option_map, Some};
+ghost use Rattle.std.specs.Prelude.{[], ◌++◌, ◌≡◌, ◌∷◌, IfOk, List, OnOk, ℕ};
+ghost use Rattle.cli_commands.specs.Inspecting.Homes.{comes_again, IsAfter};
 
 use std::alloc::{AllocError, Global};
 use std::collections::HashSet;
@@ -15,7 +16,7 @@ pub(crate) struct Homes<'a> {
 impl<'a> Homes<'a> {
     /// Before the first section.
     pub(crate) fn new(alloc: Global) -> Homes<'a>
-        ensures { result.last ≡ None }
+        ensures { IsAfter [] result }
     {
         Homes {
             begun: HashSet::new(alloc),
@@ -25,8 +26,10 @@ impl<'a> Homes<'a> {
 
     /// Adds a section of this home. Returns whether the home appears again, after another home.
     pub(crate) fn comes_again(&mut self, home: &'a str) -> Result<bool, AllocError>
-        ensures last { OnOk result (option_map (λ h. h.now) self.new.last ≡ Some home.now) }
-        ensures same { option_map (λ h. h.now) self.old.last ≡ Some home.now → result ≡ Ok false }
+        ensures again { (homes : List (List ℕ)) → IsAfter homes self.old
+            → IfOk result (λ again. again ≡ comes_again homes home.now) }
+        ensures added { (homes : List (List ℕ)) → IsAfter homes self.old
+            → OnOk result (IsAfter (homes ++ (home.now ∷ [])) self.new) }
     {
         if self.last == Some(home) {
             return Ok(false);
