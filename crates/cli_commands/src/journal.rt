@@ -174,8 +174,8 @@ fn entries_in(
     bytes: &[u8],
     count: usize,
 ) -> Result<Vec<Entry>, JournalFault>
-    requires { centre < length given.now.line.centres }
-    requires { count ≤ length bytes.now }
+    requires centre { centre < length given.now.line.centres }
+    requires count { count ≤ length bytes.now }
     ensures { IsReading given.now centre (read_part bytes.now count) result }
 {
     if count == 0 {

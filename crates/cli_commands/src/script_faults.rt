@@ -133,8 +133,12 @@ fn fault_in<'a>(
 {
     match words {
         [verb, centre, word] => fault_of_three(alloc, line, verb, centre, word),
-        [verb, from, to, number] if *verb == "deliver" => {
-            fault_of_delivery(alloc, line, from, to, number)
+        [verb, from, to, number] => {
+            if *verb == "deliver" {
+                fault_of_delivery(alloc, line, from, to, number)
+            } else {
+                fault_of_form(alloc, verb)
+            }
         }
         [verb, ..] => fault_of_form(alloc, verb),
         [] => Ok(RowFault::Blank),

@@ -1,5 +1,5 @@
 -- Entries of which some are kept, and one entry more.
-use Rattle.std.proofs.Common.{[], ◌++◌, ◌+◌, ◌≡◌, ◌∙◌, ◌∷◌, ◌⊎◌, ap, arith, inl, inr, length, length-append, List}
+use Rattle.std.proofs.Common.{[], ◌++◌, ◌+◌, ◌≡◌, ◌∙◌, ◌∷◌, ap, arith, inl, inr, length, length-append, List}
 use Rattle.std.proofs.Common.{refl, subst, suc, sym}
 use Rattle.std.proofs.lemmas.List.{append_assoc}
 use Rattle.cli_commands.specs.Rerunning.Causes.{AreSomeOf, IsCutOf, KeepsOrLeaves}
